@@ -1,0 +1,26 @@
+//! The steps of a script, their answers, and the history machine that says what each is answered.
+//!
+//! The Rust types stand here, since every layer speaks of them; the definitions stand in `specs/`,
+//! one file a subject. A history is the list of what was asked; each look-back goes over the acts
+//! that the history makes. It stands on `vd_num` alone, and the code above is proved against it.
+#![tactic(auto)]
+
+mod answer;
+mod items;
+mod memory;
+mod message;
+mod parts;
+mod queue;
+mod step;
+
+pub use answer::{Answer, ChainFault, ChainKind, Item, Tag};
+pub use items::Items;
+pub use memory::{Dir, MapError, MapInfo, Mapping, Origin, Region, Want, Window};
+pub use message::{Body, Sent, TakeAnswer};
+pub use parts::{Chain, Part, Parts};
+pub use queue::{QueueInfo, RingPlace};
+pub use step::{
+    AreaStep, BusStep, ControlStep, DevStep, DriverStep, NodeStep, QueueOrConfig, QueueStep, Step,
+    SubmitForm,
+};
+pub use vd_num::{Bus, Bytes, Errno, Lines, Name, Range};
