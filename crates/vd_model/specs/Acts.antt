@@ -1,0 +1,117 @@
+-- What is done to one device. A list of acts has the newest first.
+use Rattle.std.specs.Prelude.{ℕ, List, Bool, Option}
+use Rattle.vd_model.specs.declared.memory.Want.{Want}
+use Rattle.vd_model.specs.declared.message.Body.{Body}
+use Rattle.vd_model.specs.declared.queue.RingPlace.{RingPlace}
+use Rattle.vd_model.specs.declared.step.QueueOrConfig.{QueueOrConfig}
+
+-- a streaming mapping: its number, its first slot, and what it maps
+pub record Streaming : Type 0 where
+  pub number : ℕ
+  pub slot : ℕ
+  pub want : Want
+
+-- a coherent region: its number, its first slot, and how many bytes were asked for
+pub record Coherent : Type 0 where
+  pub number : ℕ
+  pub slot : ℕ
+  pub len : ℕ
+
+-- an act of a daemon on the device's memory, or the begin or end of its session
+pub data NodeAct : Type 0 where
+  Opened : NodeAct
+  Closed : NodeAct
+  Daemon_put : ℕ → List ℕ → NodeAct
+  Area_made : ℕ → NodeAct
+  Area_put : ℕ → List ℕ → NodeAct
+  -- the bounce memory lies in the area, from this byte of it on, so many bytes
+  Registered : ℕ → ℕ → NodeAct
+  Deregistered : NodeAct
+
+-- an act of the driver on its buffers, mappings and coherent regions
+pub data DriverAct : Type 0 where
+  Buffer : List ℕ → DriverAct
+  Zeroed : ℕ → DriverAct
+  Freed : ℕ → DriverAct
+  Poked : ℕ → ℕ → List ℕ → DriverAct
+  Mapped : Streaming → DriverAct
+  Unmapped : Streaming → DriverAct
+  Synced_device : Streaming → DriverAct
+  Synced_cpu : Streaming → DriverAct
+  Region_made : Coherent → DriverAct
+  Region_freed : Coherent → DriverAct
+  Driver_put : ℕ → List ℕ → DriverAct
+
+-- a control message: its number, what it says, when it was sent, and its timeout in seconds, 0 for none
+pub record Message : Type 0 where
+  pub id : ℕ
+  pub body : Body
+  pub moment : ℕ
+  pub timeout : ℕ
+
+-- an act on control messages; a session's close loses what it held, and a tick lets time pass to that moment
+pub data MessageAct : Type 0 where
+  Timed : ℕ → MessageAct
+  Sent : Message → MessageAct
+  Received : ℕ → MessageAct
+  -- an accepted answer: the id, the result and the available index
+  Answered : ℕ → ℕ → ℕ → MessageAct
+  Lost : MessageAct
+  Elapsed : ℕ → MessageAct
+  -- a take that told the message's end
+  Took : ℕ → MessageAct
+
+-- an act on status, features, queues, kicks, interrupts and the config space; the first number is the queue
+pub data StateAct : Type 0 where
+  Max_set : ℕ → ℕ → StateAct
+  Attached : StateAct
+  Detached : StateAct
+  Status_set : ℕ → StateAct
+  Features_set : ℕ → StateAct
+  Num_set : ℕ → ℕ → StateAct
+  Addresses_set : ℕ → ℕ → ℕ → ℕ → StateAct
+  Ready_set : ℕ → Bool → StateAct
+  Avail_set : ℕ → ℕ → StateAct
+  Kick_file_set : ℕ → Bool → StateAct
+  Kicked : ℕ → StateAct
+  Kicks_taken : ℕ → StateAct
+  Callback_set : QueueOrConfig → Bool → StateAct
+  Interrupted : QueueOrConfig → StateAct
+  Interrupts_taken : QueueOrConfig → StateAct
+  Config_put : ℕ → List ℕ → StateAct
+  -- a reset
+  Cleared : StateAct
+
+-- what a block request of the driver has beside its chain: its first buffer and how many it made, its
+-- mappings, and how many bytes the device may write
+pub record Request : Type 0 where
+  pub buffer : ℕ
+  pub buffers : ℕ
+  pub maps : List ℕ
+  pub writable : ℕ
+
+-- a chain that a driver added: its head, its descriptors, and the request that it was made for
+pub record Added : Type 0 where
+  pub head : ℕ
+  pub descriptors : List ℕ
+  pub request : Option Request
+
+-- an act on a queue's ring or of the block daemon; the first number is the queue
+pub data QueueAct : Type 0 where
+  -- the ring and the number of its coherent region
+  Ring_made : ℕ → RingPlace → ℕ → QueueAct
+  Ring_dropped : ℕ → QueueAct
+  Chain_added : ℕ → Added → QueueAct
+  Chains_published : ℕ → QueueAct
+  Chain_reclaimed : ℕ → ℕ → QueueAct
+  Fetched : ℕ → QueueAct
+  Executed : ℕ → ℕ → QueueAct
+  Finished : ℕ → QueueAct
+
+-- an act on one device
+pub data Act : Type 0 where
+  Node : NodeAct → Act
+  Driver : DriverAct → Act
+  Message_act : MessageAct → Act
+  State : StateAct → Act
+  Queue : QueueAct → Act

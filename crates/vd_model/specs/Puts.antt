@@ -1,0 +1,144 @@
+-- Each byte of memory: the last one that was put, and where it came from.
+use Rattle.std.specs.Prelude.{ℕ, zero, suc, ◌+◌, ◌-◌, ◌*◌, ◌/◌, List, [], ◌∷◌, Bool, true, false, ◌==◌, nat_lt, nat_le, ◌&&◌, not, if◌then◌else◌, Option, Some, None, unwrap_or, slice_get}
+use Rattle.std.specs.Option.{option_map, option_and_then}
+use Rattle.vd_num.specs.Number.{is_within}
+use Rattle.vd_model.specs.declared.memory.Dir.{Dir}
+use Rattle.vd_model.specs.declared.memory.Dir.TheVariants.{To, From, Both}
+use Rattle.vd_model.specs.declared.memory.Origin.{Origin}
+use Rattle.vd_model.specs.declared.memory.Origin.TheVariants.{Zero, Daemon, Handed}
+use Rattle.vd_model.specs.Acts.{Act, Node, Driver, DriverAct, Streaming, Daemon_put, Area_made, Area_put, Registered, Deregistered, Buffer, Zeroed, Poked, Mapped, Unmapped, Synced_device, Synced_cpu, Region_made, Driver_put}
+use Rattle.vd_model.specs.Live.{Registration, buffers, registered, iova_of, maps_address, region_covers, page_of, meets_page, in_use, is_present}
+
+-- where a byte is kept: an address with a store of its own, byte o of the area, or byte i of buffer k
+pub data Cell : Type 0 where
+  Iova : ℕ → Cell
+  Area : ℕ → Cell
+  Ram : ℕ → ℕ → Cell
+
+-- a byte that was put, and where it came from
+pub record Put : Type 0 where
+  pub byte : ℕ
+  pub origin : Origin
+
+-- the byte of a text that starts at `from`, at this place
+abbrev pub byte_in : List ℕ → ℕ → ℕ → Option ℕ
+byte_in bytes from at = if nat_le from at then slice_get bytes (at - from) else None
+
+abbrev pub text_at : List ℕ → ℕ → ℕ → Origin → Option Put
+text_at bytes from at origin = option_map (λ b. record { byte = b; origin = origin }) (byte_in bytes from at)
+
+abbrev pub a_zero : Put
+a_zero = record { byte = 0; origin = Zero }
+
+abbrev pub when : Bool → Put → Option Put
+when test put = if test then Some put else None
+
+-- the mapping's bytes go to the device, and come from it
+abbrev pub is_to_device : Dir → Bool
+is_to_device From = false
+is_to_device _ = true
+
+abbrev pub is_from_device : Dir → Bool
+is_from_device To = false
+is_from_device _ = true
+
+-- the cell of an address: while a registration stands, bounce memory is kept in the area
+abbrev pub home : Option Registration → ℕ → Cell
+home None a = Iova a
+home (Some r) a = if nat_lt a r.size then Area (r.base + a) else Iova a
+
+abbrev pub is_moved : Option Registration → ℕ → Bool
+is_moved None a = false
+is_moved (Some r) a = nat_lt a r.size
+
+-- the address whose cell is byte o of the area
+abbrev pub address_of : Option Registration → ℕ → Option ℕ
+address_of None o = None
+address_of (Some r) o = if is_within r.base r.size o then Some (o - r.base) else None
+
+-- the buffer's byte that stands for an address of the mapping, as the mapping hands it
+abbrev pub handed : (Cell → Put) → Streaming → ℕ → Put
+handed before m a = record { byte = (before (Ram m.want.buffer (m.want.offset + (a - iova_of m)))).byte; origin = Handed (Some m.number) }
+
+-- what a driver's act puts at an address, where `before` is the last put in each cell before the act
+abbrev pub driver_put : ℕ → (Cell → Put) → List Act → DriverAct → ℕ → Option Put
+driver_put g before acts (Mapped m) a =
+    if is_to_device m.want.dir && maps_address m a
+    then Some (handed before m a)
+    else when (meets_page g (page_of g a) m && not (is_present g acts (page_of g a))) a_zero
+driver_put g before acts (Synced_device m) a = when (maps_address m a) (handed before m a)
+driver_put g before acts (Region_made r) a = when (region_covers r a) a_zero
+driver_put g before acts (Driver_put at bytes) a = text_at bytes at a (Handed None)
+driver_put g before acts _ a = None
+
+-- what an act puts at an address
+abbrev pub address_put : ℕ → (Cell → Put) → List Act → Act → ℕ → Option Put
+address_put g before acts (Driver act) a = driver_put g before acts act a
+address_put g before acts (Node (Daemon_put at bytes)) a = text_at bytes at a Daemon
+address_put g before acts _ a = None
+
+-- what a mapping brings back to byte i of buffer k
+abbrev pub fetched : (Cell → Put) → List Act → Streaming → ℕ → ℕ → Option Put
+fetched before acts m k i =
+    when (is_from_device m.want.dir && (k == m.want.buffer) && is_within m.want.offset m.want.len i)
+    (before (home (registered acts) (iova_of m + (i - m.want.offset))))
+
+-- what an act puts into byte i of buffer k
+abbrev pub ram_put : (Cell → Put) → List Act → Act → ℕ → ℕ → Option Put
+ram_put before acts (Driver (Buffer bytes)) k i = if k == buffers acts then text_at bytes 0 i (Handed None) else None
+ram_put before acts (Driver (Zeroed len)) k i = when ((k == buffers acts) && nat_lt i len) a_zero
+ram_put before acts (Driver (Poked buffer at bytes)) k i = if k == buffer then text_at bytes at i (Handed None) else None
+ram_put before acts (Driver (Unmapped m)) k i = fetched before acts m k i
+ram_put before acts (Driver (Synced_cpu m)) k i = fetched before acts m k i
+ram_put before acts _ k i = None
+
+-- what the end of a registration gives back to the store of an address
+abbrev pub handed_back : ℕ → (Cell → Put) → List Act → Option Registration → ℕ → Option Put
+handed_back g before acts None a = None
+handed_back g before acts (Some r) a = when (nat_lt a r.size && in_use g acts (page_of g a)) (before (Area (r.base + a)))
+
+-- what an act puts into the store of an address
+abbrev pub iova_put : ℕ → (Cell → Put) → List Act → Act → ℕ → Option Put
+iova_put g before acts (Node Deregistered) a = handed_back g before acts (registered acts) a
+iova_put g before acts act a = if is_moved (registered acts) a then None else address_put g before acts act a
+
+-- what an act puts into byte o of the area
+abbrev pub area_put : ℕ → (Cell → Put) → List Act → Act → ℕ → Option Put
+area_put g before acts (Node (Area_made len)) o = when (nat_lt o len) a_zero
+area_put g before acts (Node (Area_put at bytes)) o = text_at bytes at o Daemon
+area_put g before acts (Node (Registered base size)) o = when (is_within base size o && in_use g acts (page_of g (o - base))) (before (Iova (o - base)))
+area_put g before acts act o = option_and_then (address_put g before acts act) (address_of (registered acts) o)
+
+-- what an act puts into a cell
+abbrev pub put_at : ℕ → (Cell → Put) → List Act → Act → Cell → Option Put
+put_at g before acts act (Iova a) = iova_put g before acts act a
+put_at g before acts act (Area o) = area_put g before acts act o
+put_at g before acts act (Ram k i) = ram_put before acts act k i
+
+-- the last put into a cell, and a zero before the first
+abbrev pub last_put : ℕ → List Act → Cell → Put
+last_put g [] cell = a_zero
+last_put g (act ∷ acts) cell = unwrap_or (put_at g (last_put g acts) acts act cell) (last_put g acts cell)
+
+-- byte i of buffer k
+abbrev pub ram : ℕ → List Act → ℕ → ℕ → ℕ
+ram g acts k i = (last_put g acts (Ram k i)).byte
+
+-- the byte that a daemon sees at an address, with its origin
+abbrev pub shown : ℕ → List Act → ℕ → Put
+shown g acts a = last_put g acts (home (registered acts) a)
+
+-- what f gives at the len numbers from this one on
+abbrev pub each_from : (ℕ → ℕ) → ℕ → ℕ → List ℕ
+each_from f from zero = []
+each_from f from (suc len) = f from ∷ each_from f (from + 1) len
+
+-- the bytes at len addresses, of the area, and of a buffer
+abbrev pub bus_bytes : ℕ → List Act → ℕ → ℕ → List ℕ
+bus_bytes g acts at len = each_from (λ a. (shown g acts a).byte) at len
+
+abbrev pub area_bytes : ℕ → List Act → ℕ → ℕ → List ℕ
+area_bytes g acts at len = each_from (λ o. (last_put g acts (Area o)).byte) at len
+
+abbrev pub ram_bytes : ℕ → List Act → ℕ → ℕ → ℕ → List ℕ
+ram_bytes g acts k from len = each_from (λ i. ram g acts k i) from len
