@@ -24,6 +24,8 @@ pub data NodeAct : Type 0 where
   Daemon_put : ℕ → List ℕ → NodeAct
   Area_made : ℕ → NodeAct
   Area_put : ℕ → List ℕ → NodeAct
+  -- bytes of the config space, from this one on
+  Config_put : ℕ → List ℕ → NodeAct
   -- the bounce memory lies in the area, from this byte of it on, so many bytes
   Registered : ℕ → ℕ → NodeAct
   Deregistered : NodeAct
@@ -61,26 +63,28 @@ pub data MessageAct : Type 0 where
   -- a take that told the message's end
   Took : ℕ → MessageAct
 
--- an act on status, features, queues, kicks, interrupts and the config space; the first number is the queue
+-- an act on status, features, queues, kicks and interrupts; the first number is the queue
 pub data StateAct : Type 0 where
   Max_set : ℕ → ℕ → StateAct
-  Attached : StateAct
-  Detached : StateAct
   Status_set : ℕ → StateAct
   Features_set : ℕ → StateAct
   Num_set : ℕ → ℕ → StateAct
-  Addresses_set : ℕ → ℕ → ℕ → ℕ → StateAct
+  Addr_set : ℕ → ℕ → ℕ → ℕ → StateAct
   Ready_set : ℕ → Bool → StateAct
   Avail_set : ℕ → ℕ → StateAct
   Kick_file_set : ℕ → Bool → StateAct
   Kicked : ℕ → StateAct
   Kicks_taken : ℕ → StateAct
   Callback_set : QueueOrConfig → Bool → StateAct
-  Interrupted : QueueOrConfig → StateAct
+  Injected : QueueOrConfig → StateAct
   Interrupts_taken : QueueOrConfig → StateAct
-  Config_put : ℕ → List ℕ → StateAct
   -- a reset
   Cleared : StateAct
+
+-- an act on the device's place on the bus
+pub data BusAct : Type 0 where
+  Attached : BusAct
+  Detached : BusAct
 
 -- what a block request of the driver has beside its chain: its first buffer and how many it made, its
 -- mappings, and how many bytes the device may write
@@ -108,10 +112,16 @@ pub data QueueAct : Type 0 where
   Executed : ℕ → ℕ → QueueAct
   Finished : ℕ → QueueAct
 
+-- an act on the device's disk: bytes from this byte of its window on
+pub data DiskAct : Type 0 where
+  Stored : ℕ → List ℕ → DiskAct
+
 -- an act on one device
 pub data Act : Type 0 where
   Node : NodeAct → Act
   Driver : DriverAct → Act
+  Bus : BusAct → Act
   Message_act : MessageAct → Act
   State : StateAct → Act
   Queue : QueueAct → Act
+  Disk : DiskAct → Act

@@ -2,7 +2,7 @@
 use Rattle.std.specs.Prelude.{ℕ, ◌+◌, ◌-◌, ◌*◌, ◌/◌, List, [], ◌∷◌, ◌++◌, length, Bool, true, false, ◌==◌, nat_lt, nat_le, ◌&&◌, ◌||◌, not, if◌then◌else◌, filter, Option, Some, None, unwrap_or}
 use Rattle.std.specs.List.{list_any}
 use Rattle.vd_num.specs.Number.{pages_of, is_within}
-use Rattle.vd_model.specs.Acts.{Act, Node, Driver, State, Streaming, Coherent, Opened, Closed, Area_made, Registered, Deregistered, Buffer, Zeroed, Freed, Mapped, Unmapped, Region_made, Region_freed, Cleared}
+use Rattle.vd_model.specs.Acts.{Act, Node, Driver, State, Bus, Attached, Detached, Streaming, Coherent, Opened, Closed, Area_made, Registered, Deregistered, Buffer, Zeroed, Freed, Mapped, Unmapped, Region_made, Region_freed, Cleared}
 
 -- how many buffers were made
 abbrev pub buffers : List Act → ℕ
@@ -35,6 +35,13 @@ is_open [] = false
 is_open (Node Opened ∷ acts) = true
 is_open (Node Closed ∷ acts) = false
 is_open (_ ∷ acts) = is_open acts
+
+-- the device is on the bus
+abbrev pub is_attached : List Act → Bool
+is_attached [] = false
+is_attached (Bus Attached ∷ acts) = true
+is_attached (Bus Detached ∷ acts) = false
+is_attached (_ ∷ acts) = is_attached acts
 
 -- the length of buffer k, if it is there
 abbrev pub buffer_len : List Act → ℕ → Option ℕ

@@ -1,0 +1,104 @@
+-- The lines of the control node and of the clock.
+use Rattle.std.specs.Prelude.{ℕ, ◌+◌, ◌*◌, ◌/◌, ◌%◌, ◌^◌, List, [], ◌∷◌, ◌==◌, ◌||◌, ◌&&◌, not, nat_lt, nat_le, length, Bool, true, false, Option, Some, None, is_some, replicate, if◌then◌else◌}
+use Rattle.std.specs.List.{list_all}
+use Rattle.vd_num.specs.declared.errno.Errno.{Errno}
+use Rattle.vd_num.specs.declared.errno.Errno.TheVariants.{Busy, Exist, Nodev, Inval, Nospc}
+use Rattle.vd_model.specs.declared.answer.Tag.TheVariants.{Session}
+use Rattle.vd_model.specs.declared.answer.Item.{Item}
+use Rattle.vd_model.specs.declared.answer.Item.TheVariants.{Word, Number}
+use Rattle.vd_model.specs.declared.answer.Answer.{Answer}
+use Rattle.vd_model.specs.declared.answer.Answer.TheVariants.{Done, Err}
+use Rattle.vd_model.specs.declared.step.ControlStep.{ControlStep}
+use Rattle.vd_model.specs.declared.step.ControlStep.TheVariants as control
+use Rattle.vd_model.specs.Setting.{Setting}
+use Rattle.vd_model.specs.Acts.{Node, State, Bus, Opened, Max_set, Attached}
+use Rattle.vd_model.specs.Live.{is_open, is_attached}
+use Rattle.vd_model.specs.Turn.{given}
+use Rattle.vd_model.specs.Deeds.{Deed, Made, Destroyed, On, Given, Passed, Creation, own, is_there, devices, clock, window_of, is_given}
+
+-- a step's answer, and what it does, the newest first
+pub record Outcome : Type 0 where
+  pub answer : Answer
+  pub deeds : List Deed
+
+abbrev pub done_with : List Item → List Deed → Outcome
+done_with items deeds = record { answer = Done items; deeds = deeds }
+
+abbrev pub refused_all : Errno → Outcome
+refused_all errno = record { answer = Err errno; deeds = [] }
+
+-- a refusal, if there is one, and else this outcome
+abbrev pub refuse_all : Option Errno → Outcome → Outcome
+refuse_all None outcome = outcome
+refuse_all (Some errno) outcome = refused_all errno
+
+-- ---- devices
+
+-- at most eight devices are there at once
+abbrev pub device_limit : ℕ
+device_limit = 8
+
+-- what is made of a name is refused where the name is there, or where there are eight devices
+abbrev pub new_or : List Deed → List ℕ → Outcome → Outcome
+new_or done name outcome =
+    refuse_all (given (is_there name done) Exist)
+    (refuse_all (given (nat_le device_limit (devices done)) Nospc) outcome)
+
+-- a device of one queue with the features VERSION_1, ACCESS_PLATFORM, FLUSH, INDIRECT_DESC and EVENT_IDX
+abbrev pub plain_creation : Creation
+plain_creation = record { features = 0x330000200; queues = 1; config = replicate 36 0 }
+
+-- a device that is made, opened and set up, and then attached to the bus
+abbrev pub dev_made : List ℕ → Outcome
+dev_made name =
+    done_with (Word Session ∷ Number 0 ∷ [])
+    (On name (Bus Attached) ∷ On name (State (Max_set 0 256)) ∷ On name (Node Opened) ∷ Made name plain_creation ∷ [])
+
+abbrev pub dev_outcome : List Deed → List ℕ → Outcome
+dev_outcome done name = new_or done name (dev_made name)
+
+-- the feature of this bit is among them
+abbrev pub has_feature : ℕ → ℕ → Bool
+has_feature features bit = (features / 2 ^ bit) % 2 == 1
+
+-- a config is refused: another kind of device than block, no ACCESS_PLATFORM (bit 33), CONFIG_WCE (bit 11), no queue or
+-- more than 64, an alignment above 4,096, or more than 4,096 bytes of config space
+abbrev pub is_bad_config : ℕ → ℕ → ℕ → ℕ → List ℕ → Bool
+is_bad_config device features queues align config =
+    not (device == 2) || not (has_feature features 33) || has_feature features 11
+    || (queues == 0) || nat_lt 64 queues || nat_lt 4096 align || nat_lt 4096 (length config)
+
+abbrev pub create_outcome : List Deed → List ℕ → ℕ → ℕ → ℕ → ℕ → List ℕ → Outcome
+create_outcome done name device features queues align config =
+    refuse_all (given (is_bad_config device features queues align config) Inval)
+    (new_or done name (done_with [] (Made name (record { features = features; queues = queues; config = config }) ∷ [])))
+
+-- the device is open or on the bus
+abbrev pub is_used : List ℕ → List Deed → Bool
+is_used name done = is_open (own name done) || is_attached (own name done)
+
+abbrev pub destroy_outcome : List Deed → List ℕ → Outcome
+destroy_outcome done name =
+    refuse_all (given (not (is_there name done)) Nodev)
+    (refuse_all (given (is_used name done) Busy) (done_with [] (Destroyed name ∷ [])))
+
+-- ---- the version of the interface, which is 0
+
+abbrev pub setversion_outcome : ℕ → Outcome
+setversion_outcome version = refuse_all (given (nat_lt 0 version) Inval) (done_with [] [])
+
+-- ---- the clock, in seconds up to 2 to the 40th
+
+abbrev pub tick_outcome : ℕ → Outcome
+tick_outcome now = refuse_all (given (nat_lt (2 ^ 40) now) Inval) (done_with (Number now ∷ []) (Passed now ∷ []))
+
+-- ---- sectors of the image
+
+abbrev pub image_outcome : Setting → List Deed → List ℕ → ℕ → ℕ → Outcome
+image_outcome x done name first count =
+    refuse_all (given (not (is_there name done)) Nodev)
+    (refuse_all (given (is_some (window_of name done)) Exist)
+    (refuse_all (given (count == 0) Inval)
+    (refuse_all (given (nat_lt x.sectors (first + count)) Nospc)
+    (refuse_all (given (is_given first count done) Busy)
+    (done_with [] (Given name (record { first = first; count = count }) ∷ []))))))
