@@ -1,9 +1,9 @@
 -- What is done to one device. A list of acts has the newest first.
-use Rattle.std.specs.Prelude.{ℕ, List, Bool, Option}
+use Rattle.std.specs.Prelude.{ℕ, List, [], ◌∷◌, Option}
 use Rattle.vd_model.specs.declared.memory.Want.{Want}
-use Rattle.vd_model.specs.declared.message.Body.{Body}
 use Rattle.vd_model.specs.declared.queue.RingPlace.{RingPlace}
-use Rattle.vd_model.specs.declared.step.QueueOrConfig.{QueueOrConfig}
+use Rattle.vd_model.specs.Messages.{MessageAct}
+use Rattle.vd_model.specs.State.{StateAct}
 
 -- a streaming mapping: its number, its first slot, and what it maps
 pub record Streaming : Type 0 where
@@ -43,43 +43,6 @@ pub data DriverAct : Type 0 where
   Region_made : Coherent → DriverAct
   Region_freed : Coherent → DriverAct
   Driver_put : ℕ → List ℕ → DriverAct
-
--- a control message: its number, what it says, when it was sent, and its timeout in seconds, 0 for none
-pub record Message : Type 0 where
-  pub id : ℕ
-  pub body : Body
-  pub moment : ℕ
-  pub timeout : ℕ
-
--- an act on control messages; a session's close loses what it held, and a tick lets time pass to that moment
-pub data MessageAct : Type 0 where
-  Timed : ℕ → MessageAct
-  Sent : Message → MessageAct
-  Received : ℕ → MessageAct
-  -- an accepted answer: the id, the result and the available index
-  Answered : ℕ → ℕ → ℕ → MessageAct
-  Lost : MessageAct
-  Elapsed : ℕ → MessageAct
-  -- a take that told the message's end
-  Took : ℕ → MessageAct
-
--- an act on status, features, queues, kicks and interrupts; the first number is the queue
-pub data StateAct : Type 0 where
-  Max_set : ℕ → ℕ → StateAct
-  Status_set : ℕ → StateAct
-  Features_set : ℕ → StateAct
-  Num_set : ℕ → ℕ → StateAct
-  Addr_set : ℕ → ℕ → ℕ → ℕ → StateAct
-  Ready_set : ℕ → Bool → StateAct
-  Avail_set : ℕ → ℕ → StateAct
-  Kick_file_set : ℕ → Bool → StateAct
-  Kicked : ℕ → StateAct
-  Kicks_taken : ℕ → StateAct
-  Callback_set : QueueOrConfig → Bool → StateAct
-  Injected : QueueOrConfig → StateAct
-  Interrupts_taken : QueueOrConfig → StateAct
-  -- a reset
-  Cleared : StateAct
 
 -- an act on the device's place on the bus
 pub data BusAct : Type 0 where
@@ -125,3 +88,15 @@ pub data Act : Type 0 where
   State : StateAct → Act
   Queue : QueueAct → Act
   Disk : DiskAct → Act
+
+-- of some acts, those on messages
+abbrev pub message_acts : List Act → List MessageAct
+message_acts [] = []
+message_acts (Message_act act ∷ acts) = act ∷ message_acts acts
+message_acts (_ ∷ acts) = message_acts acts
+
+-- of some acts, those on the device's state
+abbrev pub state_acts : List Act → List StateAct
+state_acts [] = []
+state_acts (State act ∷ acts) = act ∷ state_acts acts
+state_acts (_ ∷ acts) = state_acts acts

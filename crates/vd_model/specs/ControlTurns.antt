@@ -11,7 +11,8 @@ use Rattle.vd_model.specs.declared.answer.Answer.TheVariants.{Done, Err}
 use Rattle.vd_model.specs.declared.step.ControlStep.{ControlStep}
 use Rattle.vd_model.specs.declared.step.ControlStep.TheVariants as control
 use Rattle.vd_model.specs.Setting.{Setting}
-use Rattle.vd_model.specs.Acts.{Node, State, Bus, Opened, Max_set, Attached}
+use Rattle.vd_model.specs.Acts.{Node, State, Bus, Opened, Attached}
+use Rattle.vd_model.specs.State.{Max_set}
 use Rattle.vd_model.specs.Live.{is_open, is_attached}
 use Rattle.vd_model.specs.Turn.{given}
 use Rattle.vd_model.specs.Deeds.{Deed, Made, Destroyed, On, Given, Passed, Creation, own, is_there, devices, clock, window_of, is_given}

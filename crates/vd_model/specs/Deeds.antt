@@ -4,7 +4,8 @@ use Rattle.std.specs.Str.{bytes_eq}
 use Rattle.std.specs.Option.{option_map_or}
 use Rattle.vd_model.specs.declared.memory.Window.{Window}
 use Rattle.vd_model.specs.Setting.{Setting}
-use Rattle.vd_model.specs.Acts.{Act, Message_act, Disk, Stored, Elapsed}
+use Rattle.vd_model.specs.Acts.{Act, Message_act, Disk, Stored}
+use Rattle.vd_model.specs.Messages.{Elapsed}
 use Rattle.vd_model.specs.Puts.{byte_in}
 
 -- what a device is made with: the features that it offers, its queues, and the bytes of its config space

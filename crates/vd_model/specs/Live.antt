@@ -2,7 +2,8 @@
 use Rattle.std.specs.Prelude.{ℕ, ◌+◌, ◌-◌, ◌*◌, ◌/◌, List, [], ◌∷◌, ◌++◌, length, Bool, true, false, ◌==◌, nat_lt, nat_le, ◌&&◌, ◌||◌, not, if◌then◌else◌, filter, Option, Some, None, unwrap_or}
 use Rattle.std.specs.List.{list_any}
 use Rattle.vd_num.specs.Number.{pages_of, is_within}
-use Rattle.vd_model.specs.Acts.{Act, Node, Driver, State, Bus, Attached, Detached, Streaming, Coherent, Opened, Closed, Area_made, Registered, Deregistered, Buffer, Zeroed, Freed, Mapped, Unmapped, Region_made, Region_freed, Cleared}
+use Rattle.vd_model.specs.Acts.{Act, Node, Driver, State, Bus, Attached, Detached, Streaming, Coherent, Opened, Closed, Area_made, Registered, Deregistered, Buffer, Zeroed, Freed, Mapped, Unmapped, Region_made, Region_freed}
+use Rattle.vd_model.specs.State.{Cleared}
 
 -- how many buffers were made
 abbrev pub buffers : List Act → ℕ

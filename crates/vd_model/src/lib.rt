@@ -16,7 +16,7 @@ mod step;
 pub use answer::{Answer, ChainFault, ChainKind, Item, Tag};
 pub use items::Items;
 pub use memory::{Dir, MapError, MapInfo, Mapping, Origin, Region, Want, Window};
-pub use message::{Body, Sent, TakeAnswer};
+pub use message::{Body, Message, Sent, TakeAnswer};
 pub use parts::{Chain, Part, Parts};
 pub use queue::{QueueInfo, RingPlace};
 pub use step::{

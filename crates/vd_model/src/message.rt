@@ -19,6 +19,16 @@ pub struct Sent {
     pub body: Body,
 }
 
+/// A message as it was sent: its number, what it says, the time then, and its timeout in seconds,
+/// 0 for none.
+#[derive(Clone, Copy, Debug, PartialEq, Eq)]
+pub struct Message {
+    pub id: u32,
+    pub body: Body,
+    pub moment: u64,
+    pub timeout: u32,
+}
+
 /// What became of a message.
 #[derive(Clone, Copy, Debug, PartialEq, Eq)]
 pub enum TakeAnswer {
