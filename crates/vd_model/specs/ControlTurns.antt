@@ -1,11 +1,11 @@
 -- The lines of the control node and of the clock.
-use Rattle.std.specs.Prelude.{ℕ, ◌+◌, ◌*◌, ◌/◌, ◌%◌, ◌^◌, List, [], ◌∷◌, ◌==◌, ◌||◌, ◌&&◌, not, nat_lt, nat_le, length, Bool, true, false, Option, Some, None, is_some, replicate, if◌then◌else◌}
+use Rattle.std.specs.Prelude.{ℕ, ◌+◌, ◌^◌, List, [], ◌∷◌, ◌==◌, ◌||◌, ◌&&◌, not, nat_lt, nat_le, length, Bool, true, false, Option, Some, None, is_some, replicate, if◌then◌else◌}
 use Rattle.std.specs.List.{list_all}
 use Rattle.vd_num.specs.declared.errno.Errno.{Errno}
 use Rattle.vd_num.specs.declared.errno.Errno.TheVariants.{Busy, Exist, Nodev, Inval, Nospc}
 use Rattle.vd_model.specs.declared.answer.Tag.TheVariants.{Session}
 use Rattle.vd_model.specs.declared.answer.Item.{Item}
-use Rattle.vd_model.specs.declared.answer.Item.TheVariants.{Word, Number}
+use Rattle.vd_model.specs.declared.answer.Item.TheVariants.{Word, Number, Text}
 use Rattle.vd_model.specs.declared.answer.Answer.{Answer}
 use Rattle.vd_model.specs.declared.answer.Answer.TheVariants.{Done, Err}
 use Rattle.vd_model.specs.declared.step.ControlStep.{ControlStep}
@@ -15,7 +15,9 @@ use Rattle.vd_model.specs.Acts.{Node, State, Bus, Opened, Attached}
 use Rattle.vd_model.specs.State.{Max_set}
 use Rattle.vd_model.specs.Live.{is_open, is_attached}
 use Rattle.vd_model.specs.Turn.{given}
-use Rattle.vd_model.specs.Deeds.{Deed, Made, Destroyed, On, Given, Passed, Creation, own, is_there, devices, clock, window_of, is_given}
+use Rattle.vd_model.specs.Raw.{control_step}
+use Rattle.vd_model.specs.Creation.{Creation, has_feature}
+use Rattle.vd_model.specs.Deeds.{Deed, Made, Destroyed, On, Given, Passed, own, is_there, devices, clock, window_of, is_given}
 
 -- a step's answer, and what it does, the newest first
 pub record Outcome : Type 0 where
@@ -58,10 +60,6 @@ dev_made name =
 abbrev pub dev_outcome : List Deed → List ℕ → Outcome
 dev_outcome done name = new_or done name (dev_made name)
 
--- the feature of this bit is among them
-abbrev pub has_feature : ℕ → ℕ → Bool
-has_feature features bit = (features / 2 ^ bit) % 2 == 1
-
 -- a config is refused: another kind of device than block, no ACCESS_PLATFORM (bit 33), CONFIG_WCE (bit 11), no queue or
 -- more than 64, an alignment above 4,096, or more than 4,096 bytes of config space
 abbrev pub is_bad_config : ℕ → ℕ → ℕ → ℕ → List ℕ → Bool
@@ -69,9 +67,16 @@ is_bad_config device features queues align config =
     not (device == 2) || not (has_feature features 33) || has_feature features 11
     || (queues == 0) || nat_lt 64 queues || nat_lt 4096 align || nat_lt 4096 (length config)
 
+-- a byte of a name: a lower-case letter, a digit, _ or -
+abbrev pub is_name_byte : ℕ → Bool
+is_name_byte b = (nat_le 97 b && nat_le b 122) || (nat_le 48 b && nat_le b 57) || (b == 95) || (b == 45)
+
+abbrev pub is_bad_name : List ℕ → Bool
+is_bad_name name = (length name == 0) || not (list_all is_name_byte name)
+
 abbrev pub create_outcome : List Deed → List ℕ → ℕ → ℕ → ℕ → ℕ → List ℕ → Outcome
 create_outcome done name device features queues align config =
-    refuse_all (given (is_bad_config device features queues align config) Inval)
+    refuse_all (given (is_bad_name name || is_bad_config device features queues align config) Inval)
     (new_or done name (done_with [] (Made name (record { features = features; queues = queues; config = config }) ∷ [])))
 
 -- the device is open or on the bus
@@ -103,3 +108,25 @@ image_outcome x done name first count =
     (refuse_all (given (nat_lt x.sectors (first + count)) Nospc)
     (refuse_all (given (is_given first count done) Busy)
     (done_with [] (Given name (record { first = first; count = count }) ∷ []))))))
+
+-- ---- the lines
+
+abbrev pub plain_outcome : Setting → List Deed → ControlStep → Outcome
+plain_outcome x done control.Version = done_with (Number 0 ∷ []) []
+plain_outcome x done (control.SetVersion version) = setversion_outcome version
+plain_outcome x done (control.Create name vendor device features queues align config) = create_outcome done name device features queues align config
+plain_outcome x done (control.Destroy name) = destroy_outcome done name
+plain_outcome x done (control.Dev name) = dev_outcome done name
+plain_outcome x done (control.Tick seconds) = tick_outcome (clock done + seconds)
+plain_outcome x done (control.Image name first count) = image_outcome x done name first count
+plain_outcome x done (control.Control number bytes) = refused_all Inval
+
+-- a raw line is answered as the plain line that it stands for, and the version as a number of eight bytes
+abbrev pub raw_outcome : Setting → List Deed → Option ControlStep → Outcome
+raw_outcome x done None = refused_all Inval
+raw_outcome x done (Some control.Version) = done_with (Text (replicate 8 0) ∷ []) []
+raw_outcome x done (Some step) = plain_outcome x done step
+
+abbrev pub control_outcome : Setting → List Deed → ControlStep → Outcome
+control_outcome x done (control.Control number bytes) = raw_outcome x done (control_step number bytes)
+control_outcome x done step = plain_outcome x done step

@@ -7,12 +7,7 @@ use Rattle.vd_model.specs.Setting.{Setting}
 use Rattle.vd_model.specs.Acts.{Act, Message_act, Disk, Stored}
 use Rattle.vd_model.specs.Messages.{Elapsed}
 use Rattle.vd_model.specs.Puts.{byte_in}
-
--- what a device is made with: the features that it offers, its queues, and the bytes of its config space
-pub record Creation : Type 0 where
-  pub features : ℕ
-  pub queues : ℕ
-  pub config : List ℕ
+use Rattle.vd_model.specs.Creation.{Creation}
 
 -- a device was made or destroyed, an act was done to one, a name got sectors of the image, or time passed for all
 pub data Deed : Type 0 where

@@ -1,50 +1,41 @@
 -- The history machine: what each step is answered after a history, and what it does.
-use Rattle.std.specs.Prelude.{ℕ, ◌+◌, List, [], ◌∷◌, ◌++◌, Bool, true, false, ◌==◌, ◌&&◌, ◌||◌, not, Option, Some, None, is_some, map, if◌then◌else◌}
+use Rattle.std.specs.Prelude.{ℕ, List, [], ◌∷◌, ◌++◌, Bool, not, map}
+use Rattle.std.specs.Option.{option_map_or}
 use Rattle.vd_num.specs.declared.errno.Errno.TheVariants.{Badf, Nodev, Inval}
-use Rattle.vd_model.specs.declared.answer.Item.TheVariants.{Number}
 use Rattle.vd_model.specs.declared.answer.Answer.{Answer}
 use Rattle.vd_model.specs.declared.step.Step.{Step}
 use Rattle.vd_model.specs.declared.step.Step.TheVariants.{Control, Device, Queue}
 use Rattle.vd_model.specs.declared.step.DevStep.{DevStep}
 use Rattle.vd_model.specs.declared.step.DevStep.TheVariants as line
-use Rattle.vd_model.specs.declared.step.ControlStep.{ControlStep}
-use Rattle.vd_model.specs.declared.step.ControlStep.TheVariants as control
 use Rattle.vd_model.specs.Setting.{Setting}
 use Rattle.vd_model.specs.Acts.{Act, Node, Driver}
 use Rattle.vd_model.specs.Live.{is_open, is_attached}
 use Rattle.vd_model.specs.Turn.{Turn, refused, refuse, given, lift}
 use Rattle.vd_model.specs.DriverTurns.{driver_turn}
 use Rattle.vd_model.specs.AreaTurns.{area_turn}
-use Rattle.vd_model.specs.Deeds.{Deed, On, Seen, seen, clock}
-use Rattle.vd_model.specs.ControlTurns.{Outcome, done_with, refused_all, dev_outcome, create_outcome, destroy_outcome, setversion_outcome, tick_outcome, image_outcome}
+use Rattle.vd_model.specs.NodeTurns.{node_turn}
+use Rattle.vd_model.specs.BusTurns.{bus_turn}
+use Rattle.vd_model.specs.Creation.{Creation}
+use Rattle.vd_model.specs.Deeds.{Deed, On, Seen, seen}
+use Rattle.vd_model.specs.ControlTurns.{Outcome, refused_all, control_outcome}
 
--- a line of the device node needs a session, and a line of the driver a device on the bus
+-- a daemon's line on memory needs a session, and a driver's line a device on the bus
 abbrev pub needs_session : List Act → Turn Act → Turn Act
 needs_session done turn = refuse (given (not (is_open done)) Badf) turn
 
 abbrev pub needs_bus : List Act → Turn Act → Turn Act
 needs_bus done turn = refuse (given (not (is_attached done)) Nodev) turn
 
--- a line on a device that is there
-abbrev pub dev_turn : Setting → Seen → DevStep → Turn Act
-dev_turn x seen (line.Area step) = needs_session seen.acts (lift Node (area_turn x seen.acts step))
-dev_turn x seen (line.Driver step) = needs_bus seen.acts (lift Driver (driver_turn x seen.acts step))
-dev_turn x seen (line.Node step) = refused Inval
-dev_turn x seen (line.Bus step) = refused Inval
+-- a line on a device that was made with this
+abbrev pub dev_turn : Setting → Creation → Seen → DevStep → Turn Act
+dev_turn x made seen (line.Node step) = node_turn x made seen.acts step
+dev_turn x made seen (line.Area step) = needs_session seen.acts (lift Node (area_turn x seen.acts step))
+dev_turn x made seen (line.Bus step) = bus_turn made seen.now seen.acts step
+dev_turn x made seen (line.Driver step) = needs_bus seen.acts (lift Driver (driver_turn x seen.acts step))
 
--- a line on a device, which is refused where the device isn't there
+-- a line on a device, which is refused where there is none of the name
 abbrev pub device_turn : Setting → Seen → DevStep → Turn Act
-device_turn x seen step = refuse (given (not (is_some seen.made)) Nodev) (dev_turn x seen step)
-
-abbrev pub control_outcome : Setting → List Deed → ControlStep → Outcome
-control_outcome x done (control.Version) = done_with (Number 0 ∷ []) []
-control_outcome x done (control.SetVersion version) = setversion_outcome version
-control_outcome x done (control.Create name vendor device features queues align config) = create_outcome done name device features queues align config
-control_outcome x done (control.Destroy name) = destroy_outcome done name
-control_outcome x done (control.Dev name) = dev_outcome done name
-control_outcome x done (control.Control number bytes) = refused_all Inval
-control_outcome x done (control.Tick seconds) = tick_outcome (clock done + seconds)
-control_outcome x done (control.Image name first count) = image_outcome x done name first count
+device_turn x seen step = option_map_or (λ made. dev_turn x made seen step) seen.made (refused Nodev)
 
 -- a turn of the device of this name
 abbrev pub on : List ℕ → Turn Act → Outcome

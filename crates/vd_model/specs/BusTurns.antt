@@ -1,0 +1,198 @@
+-- The lines of the bus: attachment, status, features, queues, kicks, interrupts, and the ends of messages.
+use Rattle.std.specs.Prelude.{ℕ, zero, suc, ◌+◌, ◌%◌, List, [], ◌∷◌, ◌++◌, length, take, drop, Bool, true, false, ◌==◌, nat_lt, ◌&&◌, ◌||◌, not, if◌then◌else◌, bit_and, slice_range}
+use Rattle.vd_num.specs.Number.{power_from}
+use Rattle.vd_num.specs.declared.errno.Errno.{Errno}
+use Rattle.vd_num.specs.declared.errno.Errno.TheVariants.{Noent, Io, Busy, Exist, Nodev, Inval, Nospc}
+use Rattle.vd_model.specs.declared.message.Body.{Body}
+use Rattle.vd_model.specs.declared.message.Body.TheVariants as body
+use Rattle.vd_model.specs.declared.message.TakeAnswer.{TakeAnswer}
+use Rattle.vd_model.specs.declared.message.TakeAnswer.TheVariants as end
+use Rattle.vd_model.specs.declared.step.QueueOrConfig.{QueueOrConfig}
+use Rattle.vd_model.specs.declared.step.QueueOrConfig.TheVariants as interrupt
+use Rattle.vd_model.specs.declared.step.BusStep.{BusStep}
+use Rattle.vd_model.specs.declared.step.BusStep.TheVariants as bus
+use Rattle.vd_model.specs.declared.answer.Tag.TheVariants.{Id, Avail}
+use Rattle.vd_model.specs.declared.answer.Item.{Item}
+use Rattle.vd_model.specs.declared.answer.Item.TheVariants.{Word, Number, Address, Text}
+use Rattle.vd_model.specs.declared.answer.Answer.{Answer}
+use Rattle.vd_model.specs.declared.answer.Answer.TheVariants.{Done, Err, Pending, FailedReply, FailedTimeout}
+use Rattle.vd_model.specs.Creation.{Creation, has_feature}
+use Rattle.vd_model.specs.Acts.{Act, Node, Bus, Message_act, State, Config_put, Attached, Detached, message_acts, state_acts}
+use Rattle.vd_model.specs.Messages.{MessageAct, Timed, Sent, Took, Start, next_id, message_of, is_broken, told, untaken, id_limit}
+use Rattle.vd_model.specs.State.{StateAct, Status_set, Features_set, Num_set, Addr_set, Ready_set, Avail_set, Kicked, Callback_set, Interrupts_taken, Cleared, status_of, max_of, interrupts_of}
+use Rattle.vd_model.specs.Live.{is_attached, live, live_regions}
+use Rattle.vd_model.specs.Turn.{Turn, refused, refuse, given}
+
+-- an answer of some items, and the acts of a line of the bus
+abbrev pub done_with : List Item → List Act → Turn Act
+done_with items acts = record { answer = Done items; acts = acts }
+
+-- a device's messages have ids from 0 on, and 30 seconds until another timeout is set
+abbrev pub device_start : Start
+device_start = record { timeout = 30; first = 0 }
+
+-- the device has no such queue
+abbrev pub is_missing : Creation → ℕ → Bool
+is_missing made q = not (nat_lt q made.queues)
+
+abbrev pub is_missing_interrupt : Creation → QueueOrConfig → Bool
+is_missing_interrupt made interrupt.Config = false
+is_missing_interrupt made (interrupt.Queue q) = is_missing made q
+
+-- ---- the bus
+
+-- one of the first n queues was given no maximal size
+abbrev pub lacks_size : List StateAct → ℕ → Bool
+lacks_size state zero = false
+lacks_size state (suc n) = (max_of state n == 0) || lacks_size state n
+
+abbrev pub attach_turn : Creation → List Act → Turn Act
+attach_turn made done =
+    refuse (given (lacks_size (state_acts done) made.queues) Inval)
+    (refuse (given (is_attached done) Exist)
+    (done_with [] (Bus Attached ∷ [])))
+
+-- something of the driver's is left: a mapping, a coherent region, or a message that wasn't taken
+abbrev pub is_busy : List Act → Bool
+is_busy done = nat_lt 0 (length (live done)) || nat_lt 0 (length (live_regions done)) || nat_lt 0 (untaken (message_acts done))
+
+abbrev pub detach_turn : List Act → Turn Act
+detach_turn done = refuse (given (is_busy done) Busy) (done_with [] (State Cleared ∷ Bus Detached ∷ []))
+
+-- ---- messages
+
+-- a message is sent, unless the device is broken or no id is left
+abbrev pub send_turn : ℕ → List Act → Body → Turn Act
+send_turn now done body =
+    refuse (given (is_broken (message_acts done)) Io)
+    (refuse (given (next_id device_start (message_acts done) == id_limit) Nospc)
+    (done_with (Word Id ∷ Number (next_id device_start (message_acts done)) ∷ [])
+      (Message_act (Sent (message_of device_start (message_acts done) body now)) ∷ [])))
+
+-- a reset is a message of the status 0; on a broken device it is refused, and then done at once
+abbrev pub reset_turn : ℕ → List Act → Turn Act
+reset_turn now done =
+    if is_broken (message_acts done)
+    then record { answer = Err Io; acts = State Cleared ∷ [] }
+    else send_turn now done (body.Status 0)
+
+-- a reset was asked for
+abbrev pub asks_reset : Body → Bool
+asks_reset (body.Status value) = value == 0
+asks_reset _ = false
+
+-- the end of a message is taken; that of a reset resets the device, however it ends
+abbrev pub taken : ℕ → Body → List Act → List Act
+taken id body more = (if asks_reset body then State Cleared ∷ [] else more) ++ Message_act (Took id) ∷ []
+
+-- a status that was set is stored, and a queue's available index is told
+abbrev pub done_turn : ℕ → Body → ℕ → Turn Act
+done_turn id (body.Status value) avail = done_with [] (taken id (body.Status value) (State (Status_set value) ∷ []))
+done_turn id (body.VqState index) avail = done_with (Word Avail ∷ Number avail ∷ []) (taken id (body.VqState index) [])
+done_turn id (body.Iotlb range) avail = done_with [] (taken id (body.Iotlb range) [])
+
+abbrev pub take_turn : ℕ → TakeAnswer → Turn Act
+take_turn id end.Pending = record { answer = Pending; acts = [] }
+take_turn id end.Unknown = refused Noent
+take_turn id (end.Done body avail) = done_turn id body avail
+take_turn id (end.FailedByReply body result) = record { answer = FailedReply result; acts = taken id body [] }
+take_turn id (end.FailedByTimeout body deadline now) = record { answer = FailedTimeout deadline now; acts = taken id body [] }
+
+-- ---- features and queues
+
+-- a driver may accept what is offered, and must accept ACCESS_PLATFORM (bit 33)
+abbrev pub setfeatures_turn : Creation → ℕ → Turn Act
+setfeatures_turn made features =
+    refuse (given (not (bit_and features made.features == features) || not (has_feature features 33)) Inval)
+    (done_with [] (State (Features_set features) ∷ []))
+
+-- a size is a power of two up to 32,768 and to the queue's maximal size
+abbrev pub is_bad_size : ℕ → ℕ → Bool
+is_bad_size max num = nat_lt 32768 num || nat_lt max num || not (power_from num == num)
+
+abbrev pub vqnum_turn : Creation → List StateAct → ℕ → ℕ → Turn Act
+vqnum_turn made state q num =
+    refuse (given (is_missing made q) Inval)
+    (refuse (given (is_bad_size (max_of state q) num) Inval)
+    (done_with [] (State (Num_set q num) ∷ [])))
+
+-- the alignment of virtio 1.2, section 2.7
+abbrev pub is_unaligned : ℕ → ℕ → ℕ → Bool
+is_unaligned desc driver device = not (desc % 16 == 0) || not (driver % 2 == 0) || not (device % 4 == 0)
+
+abbrev pub vqaddr_turn : Creation → ℕ → ℕ → ℕ → ℕ → Turn Act
+vqaddr_turn made q desc driver device =
+    refuse (given (is_missing made q) Inval)
+    (refuse (given (is_unaligned desc driver device) Inval)
+    (done_with [] (State (Addr_set q desc driver device) ∷ [])))
+
+-- an act on a queue that is there
+abbrev pub on_queue : Creation → ℕ → StateAct → Turn Act
+on_queue made q act = refuse (given (is_missing made q) Inval) (done_with [] (State act ∷ []))
+
+abbrev pub getvqstate_turn : Creation → ℕ → List Act → ℕ → Turn Act
+getvqstate_turn made now done q = refuse (given (is_missing made q) Inval) (send_turn now done (body.VqState q))
+
+abbrev pub callback_turn : Creation → QueueOrConfig → Bool → Turn Act
+callback_turn made on flag =
+    refuse (given (is_missing_interrupt made on) Inval)
+    (done_with [] (State (Callback_set on flag) ∷ []))
+
+abbrev pub irqs_turn : Creation → List StateAct → QueueOrConfig → Turn Act
+irqs_turn made state on =
+    refuse (given (is_missing_interrupt made on) Inval)
+    (done_with (Number (interrupts_of state on) ∷ []) (State (Interrupts_taken on) ∷ []))
+
+-- ---- the config space
+
+-- some bytes with others in place of theirs from `at` on
+abbrev pub overlaid : List ℕ → ℕ → List ℕ → List ℕ
+overlaid old at bytes = take at old ++ (bytes ++ drop (at + length bytes) old)
+
+-- the bytes of the config space, which were these at the making
+abbrev pub config_of : List ℕ → List Act → List ℕ
+config_of first [] = first
+config_of first (Node (Config_put at bytes) ∷ acts) = overlaid (config_of first acts) at bytes
+config_of first (_ ∷ acts) = config_of first acts
+
+-- no bytes, or some outside the config space
+abbrev pub is_outside_config : Creation → ℕ → ℕ → Bool
+is_outside_config made at len = (len == 0) || nat_lt (length made.config) (at + len)
+
+abbrev pub getconfig_turn : Creation → List Act → ℕ → ℕ → Turn Act
+getconfig_turn made done at len =
+    refuse (given (is_outside_config made at len) Inval)
+    (done_with (Text (slice_range (config_of made.config done) at (at + len)) ∷ []) [])
+
+-- ---- the lines
+
+-- a line of the bus needs a device on it, but for these three
+abbrev pub needs_attachment : BusStep → Bool
+needs_attachment bus.Attach = false
+needs_attachment (bus.Timeout seconds) = false
+needs_attachment (bus.Take id) = false
+needs_attachment _ = true
+
+abbrev pub attached_turn : Creation → ℕ → List Act → BusStep → Turn Act
+attached_turn made now done bus.Attach = attach_turn made done
+attached_turn made now done bus.Detach = detach_turn done
+attached_turn made now done bus.Offered = done_with (Address made.features ∷ []) []
+attached_turn made now done (bus.SetFeatures features) = setfeatures_turn made features
+attached_turn made now done bus.GetStatus = done_with (Number (status_of (state_acts done)) ∷ []) []
+attached_turn made now done (bus.SetStatus status) = send_turn now done (body.Status status)
+attached_turn made now done bus.Reset = reset_turn now done
+attached_turn made now done (bus.VqNum queue num) = vqnum_turn made (state_acts done) queue num
+attached_turn made now done (bus.VqAddr queue desc driver device) = vqaddr_turn made queue desc driver device
+attached_turn made now done (bus.VqReady queue flag) = on_queue made queue (Ready_set queue flag)
+attached_turn made now done (bus.SetVqState queue avail) = on_queue made queue (Avail_set queue avail)
+attached_turn made now done (bus.GetVqState queue) = getvqstate_turn made now done queue
+attached_turn made now done (bus.Kick queue) = on_queue made queue (Kicked queue)
+attached_turn made now done (bus.Callback on flag) = callback_turn made on flag
+attached_turn made now done (bus.Irqs on) = irqs_turn made (state_acts done) on
+attached_turn made now done (bus.GetConfig offset len) = getconfig_turn made done offset len
+attached_turn made now done (bus.Timeout seconds) = done_with [] (Message_act (Timed seconds) ∷ [])
+attached_turn made now done (bus.Take id) = take_turn id (told (message_acts done) id)
+
+abbrev pub bus_turn : Creation → ℕ → List Act → BusStep → Turn Act
+bus_turn made now done step =
+    refuse (given (needs_attachment step && not (is_attached done)) Nodev) (attached_turn made now done step)
