@@ -1,6 +1,5 @@
 -- The lines of the bus: attachment, status, features, queues, kicks, interrupts, and the ends of messages.
-use Rattle.std.specs.Prelude.{ℕ, zero, suc, ◌+◌, ◌%◌, List, [], ◌∷◌, ◌++◌, length, take, drop, Bool, true, false, ◌==◌, nat_lt, ◌&&◌, ◌||◌, not, if◌then◌else◌, bit_and, slice_range}
-use Rattle.vd_num.specs.Number.{power_from}
+use Rattle.std.specs.Prelude.{ℕ, ◌+◌, List, [], ◌∷◌, ◌++◌, length, take, drop, Bool, true, false, ◌==◌, nat_lt, ◌&&◌, ◌||◌, not, if◌then◌else◌, slice_range}
 use Rattle.vd_num.specs.declared.errno.Errno.{Errno}
 use Rattle.vd_num.specs.declared.errno.Errno.TheVariants.{Noent, Io, Busy, Exist, Nodev, Inval, Nospc}
 use Rattle.vd_model.specs.declared.message.Body.{Body}
@@ -8,7 +7,6 @@ use Rattle.vd_model.specs.declared.message.Body.TheVariants as body
 use Rattle.vd_model.specs.declared.message.TakeAnswer.{TakeAnswer}
 use Rattle.vd_model.specs.declared.message.TakeAnswer.TheVariants as end
 use Rattle.vd_model.specs.declared.step.QueueOrConfig.{QueueOrConfig}
-use Rattle.vd_model.specs.declared.step.QueueOrConfig.TheVariants as interrupt
 use Rattle.vd_model.specs.declared.step.BusStep.{BusStep}
 use Rattle.vd_model.specs.declared.step.BusStep.TheVariants as bus
 use Rattle.vd_model.specs.declared.answer.Tag.TheVariants.{Id, Avail}
@@ -16,10 +14,10 @@ use Rattle.vd_model.specs.declared.answer.Item.{Item}
 use Rattle.vd_model.specs.declared.answer.Item.TheVariants.{Word, Number, Address, Text}
 use Rattle.vd_model.specs.declared.answer.Answer.{Answer}
 use Rattle.vd_model.specs.declared.answer.Answer.TheVariants.{Done, Err, Pending, FailedReply, FailedTimeout}
-use Rattle.vd_model.specs.Creation.{Creation, has_feature}
+use Rattle.vd_model.specs.Creation.{Creation}
 use Rattle.vd_model.specs.Acts.{Act, Node, Bus, Message_act, State, Config_put, Attached, Detached, message_acts, state_acts}
 use Rattle.vd_model.specs.Messages.{MessageAct, Timed, Sent, Took, Start, next_id, message_of, is_broken, told, untaken, id_limit}
-use Rattle.vd_model.specs.State.{StateAct, Status_set, Features_set, Num_set, Addr_set, Ready_set, Avail_set, Kicked, Callback_set, Interrupts_taken, Cleared, status_of, max_of, interrupts_of}
+use Rattle.vd_model.specs.State.{StateAct, Status_set, Features_set, Num_set, Addr_set, Ready_set, Avail_set, Kicked, Callback_set, Interrupts_taken, Cleared, Made, is_queue, may_accept, may_have, are_aligned, are_set_up, is_there, status_of, max_of, interrupts_of}
 use Rattle.vd_model.specs.Live.{is_attached, live, live_regions}
 use Rattle.vd_model.specs.Turn.{Turn, refused, refuse, given}
 
@@ -31,24 +29,20 @@ done_with items acts = record { answer = Done items; acts = acts }
 abbrev pub device_start : Start
 device_start = record { timeout = 30; first = 0 }
 
+-- what a creation fixes of the state
+abbrev pub fixed : Creation → Made
+fixed made = record { queues = made.queues; offered = made.features }
+
 -- the device has no such queue
 abbrev pub is_missing : Creation → ℕ → Bool
-is_missing made q = not (nat_lt q made.queues)
-
-abbrev pub is_missing_interrupt : Creation → QueueOrConfig → Bool
-is_missing_interrupt made interrupt.Config = false
-is_missing_interrupt made (interrupt.Queue q) = is_missing made q
+is_missing made q = not (is_queue (fixed made) q)
 
 -- ---- the bus
 
--- one of the first n queues was given no maximal size
-abbrev pub lacks_size : List StateAct → ℕ → Bool
-lacks_size state zero = false
-lacks_size state (suc n) = (max_of state n == 0) || lacks_size state n
-
+-- a device may be attached once each of its queues has a largest size
 abbrev pub attach_turn : Creation → List Act → Turn Act
 attach_turn made done =
-    refuse (given (lacks_size (state_acts done) made.queues) Inval)
+    refuse (given (not (are_set_up (state_acts done) made.queues)) Inval)
     (refuse (given (is_attached done) Exist)
     (done_with [] (Bus Attached ∷ [])))
 
@@ -100,30 +94,21 @@ take_turn id (end.FailedByTimeout body deadline now) = record { answer = FailedT
 
 -- ---- features and queues
 
--- a driver may accept what is offered, and must accept ACCESS_PLATFORM (bit 33)
 abbrev pub setfeatures_turn : Creation → ℕ → Turn Act
 setfeatures_turn made features =
-    refuse (given (not (bit_and features made.features == features) || not (has_feature features 33)) Inval)
+    refuse (given (not (may_accept (fixed made) features)) Inval)
     (done_with [] (State (Features_set features) ∷ []))
-
--- a size is a power of two up to 32,768 and to the queue's maximal size
-abbrev pub is_bad_size : ℕ → ℕ → Bool
-is_bad_size max num = nat_lt 32768 num || nat_lt max num || not (power_from num == num)
 
 abbrev pub vqnum_turn : Creation → List StateAct → ℕ → ℕ → Turn Act
 vqnum_turn made state q num =
     refuse (given (is_missing made q) Inval)
-    (refuse (given (is_bad_size (max_of state q) num) Inval)
+    (refuse (given (not (may_have (max_of state q) num)) Inval)
     (done_with [] (State (Num_set q num) ∷ [])))
-
--- the alignment of virtio 1.2, section 2.7
-abbrev pub is_unaligned : ℕ → ℕ → ℕ → Bool
-is_unaligned desc driver device = not (desc % 16 == 0) || not (driver % 2 == 0) || not (device % 4 == 0)
 
 abbrev pub vqaddr_turn : Creation → ℕ → ℕ → ℕ → ℕ → Turn Act
 vqaddr_turn made q desc driver device =
     refuse (given (is_missing made q) Inval)
-    (refuse (given (is_unaligned desc driver device) Inval)
+    (refuse (given (not (are_aligned desc driver device)) Inval)
     (done_with [] (State (Addr_set q desc driver device) ∷ [])))
 
 -- an act on a queue that is there
@@ -135,12 +120,12 @@ getvqstate_turn made now done q = refuse (given (is_missing made q) Inval) (send
 
 abbrev pub callback_turn : Creation → QueueOrConfig → Bool → Turn Act
 callback_turn made on flag =
-    refuse (given (is_missing_interrupt made on) Inval)
+    refuse (given (not (is_there (fixed made) on)) Inval)
     (done_with [] (State (Callback_set on flag) ∷ []))
 
 abbrev pub irqs_turn : Creation → List StateAct → QueueOrConfig → Turn Act
 irqs_turn made state on =
-    refuse (given (is_missing_interrupt made on) Inval)
+    refuse (given (not (is_there (fixed made) on)) Inval)
     (done_with (Number (interrupts_of state on) ∷ []) (State (Interrupts_taken on) ∷ []))
 
 -- ---- the config space

@@ -1,5 +1,5 @@
 -- The lines of the device node: the session, the config space, queues, kicks, interrupts and messages.
-use Rattle.std.specs.Prelude.{ℕ, ◌+◌, ◌/◌, ◌%◌, List, [], ◌∷◌, length, take, Bool, true, false, ◌==◌, ◌&&◌, nat_lt, not, if◌then◌else◌, Option, Some, None}
+use Rattle.std.specs.Prelude.{ℕ, List, [], ◌∷◌, length, Bool, true, false, ◌&&◌, nat_lt, not, if◌then◌else◌, Option, Some, None}
 use Rattle.std.specs.Option.{option_map_or}
 use Rattle.vd_num.specs.declared.errno.Errno.TheVariants.{Noent, Badf, Again, Busy, Inval}
 use Rattle.vd_model.specs.declared.message.Body.{Body}
@@ -16,7 +16,7 @@ use Rattle.vd_model.specs.Setting.{Setting}
 use Rattle.vd_model.specs.Creation.{Creation}
 use Rattle.vd_model.specs.Acts.{Act, NodeAct, Node, Message_act, State, Opened, Closed, Config_put, Deregistered, message_acts, state_acts}
 use Rattle.vd_model.specs.Messages.{Received, Answered, Lost, is_held, next}
-use Rattle.vd_model.specs.State.{StateAct, Max_set, Kick_file_set, Kicks_taken, Injected, status_of, features_of, info_of, has_kick_file, kicks_of}
+use Rattle.vd_model.specs.State.{StateAct, Max_set, Kick_file_set, Kicks_taken, Injected, is_driver_ok, features_of, info_of, kick_file_of}
 use Rattle.vd_model.specs.Live.{Registration, sessions, is_open, registered}
 use Rattle.vd_model.specs.Turn.{Turn, refused, refuse, given, lift}
 use Rattle.vd_model.specs.BusTurns.{done_with, is_missing, is_outside_config, on_queue}
@@ -45,10 +45,7 @@ setconfig_turn made at bytes =
     refuse (given (is_outside_config made at (length bytes)) Inval)
     (done_with [] (Node (Config_put at bytes) ∷ []))
 
--- the driver said that it is ready (DRIVER_OK, 4)
-abbrev pub is_driver_ok : List StateAct → Bool
-is_driver_ok state = (status_of state / 4) % 2 == 1
-
+-- interrupts are refused until the driver is ready
 abbrev pub configirq_turn : List StateAct → Turn Act
 configirq_turn state = refuse (given (not (is_driver_ok state)) Inval) (done_with [] (State (Injected interrupt.Config) ∷ []))
 
@@ -73,8 +70,7 @@ vqinfo_turn made state q = refuse (given (is_missing made q) Inval) (done_with (
 abbrev pub kicks_turn : Creation → List StateAct → ℕ → Turn Act
 kicks_turn made state q =
     refuse (given (is_missing made q) Inval)
-    (refuse (given (not (has_kick_file state q)) Noent)
-    (done_with (Number (kicks_of state q) ∷ []) (State (Kicks_taken q) ∷ [])))
+    (option_map_or (λ count. done_with (Number count ∷ []) (State (Kicks_taken q) ∷ [])) (kick_file_of state q) (refused Noent))
 
 -- ---- messages
 
