@@ -72,7 +72,8 @@ pub data QueueAct : Type 0 where
   Chains_published : ℕ → QueueAct
   Chain_reclaimed : ℕ → ℕ → QueueAct
   Fetched : ℕ → QueueAct
-  Executed : ℕ → ℕ → QueueAct
+  -- its status, and the bytes that it answers before the status
+  Executed : ℕ → ℕ → List ℕ → QueueAct
   Finished : ℕ → QueueAct
 
 -- an act on the device's disk: bytes from this byte of its window on
