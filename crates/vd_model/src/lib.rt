@@ -7,15 +7,18 @@
 
 mod answer;
 mod descriptor;
+mod built;
 mod items;
 mod memory;
 mod message;
 mod parts;
 mod queue;
 mod step;
+mod word;
 
 pub use answer::{Answer, ChainFault, ChainKind, Item, Tag};
 pub use descriptor::{Descriptor, Position, Table};
+pub use built::served;
 pub use items::Items;
 pub use memory::{Dir, MapError, MapInfo, Mapping, Origin, Region, Want, Window};
 pub use message::{Body, Message, Sent, TakeAnswer};
@@ -26,3 +29,7 @@ pub use step::{
     SubmitForm,
 };
 pub use vd_num::{Bus, Bytes, Errno, Lines, Name, Range};
+pub use word::{
+    ALL_AREA_WORDS, ALL_BUS_WORDS, ALL_CONTROL_WORDS, ALL_DRIVER_WORDS, ALL_NODE_WORDS,
+    ALL_QUEUE_WORDS, AreaWord, BusWord, ControlWord, DriverWord, Keyword, NodeWord, QueueWord,
+};

@@ -1,0 +1,86 @@
+-- What is written for a script.
+use Rattle.std.specs.Prelude.{ℕ, ◌+◌, List, [], ◌∷◌, ◌++◌, ◌==◌, Bool, true, false, ◌&&◌, nat_lt, nat_le, if◌then◌else◌, Option, Some, None, is_some, length, take, drop}
+use Rattle.std.specs.List.{list_any, take_while}
+use Rattle.vd_model.specs.declared.step.Step.{Step}
+use Rattle.vd_model.specs.Setting.{Setting}
+use Rattle.vd_model.specs.Reading.{lines}
+use Rattle.vd_model.specs.Served.{served_reading}
+use Rattle.vd_model.specs.Replies.{reply_line}
+use Rattle.vd_model.specs.History.{History, reply}
+
+-- a script has at most 64 MiB, and a line at most 65,536 bytes before its LF
+abbrev pub text_limit : ℕ
+text_limit = 67108864
+
+abbrev pub line_limit : ℕ
+line_limit = 65536
+
+-- the lines, the first of them with b in front, if there is one
+abbrev pub onto_first_ended : ℕ → List (List ℕ) → List (List ℕ)
+onto_first_ended b [] = []
+onto_first_ended b (line ∷ lines) = (b ∷ line) ∷ lines
+
+-- the lines that an LF ends
+unfoldable pub ended : List ℕ → List (List ℕ)
+ended [] = []
+ended (b ∷ bytes) = if b == 10 then [] ∷ ended bytes else onto_first_ended b (ended bytes)
+
+-- the lines of a script; of one that is too long, those that an LF within the limit ends
+abbrev pub script_lines : List ℕ → List (List ℕ)
+script_lines text = if nat_le (length text) text_limit then lines text else ended (take text_limit text)
+
+-- the line is short enough and in the grammar
+abbrev pub is_good : List ℕ → Bool
+is_good line = nat_le (length line) line_limit && is_some (served_reading line)
+
+-- the lines before the one that stops the run
+abbrev pub good_lines : List ℕ → List (List ℕ)
+good_lines text = take_while is_good (script_lines text)
+
+-- why a run stops: at the end, at a line that isn't in the grammar, or at one that is too long or that holds the
+-- first byte past the limit; lines are counted from 1
+pub data Stop : Type 0 where
+  At_the_end : Stop
+  Not_in_grammar : ℕ → Stop
+  Too_long : ℕ → Stop
+
+-- the stop at these lines, after n others; `more` tells that the script goes on past the limit
+abbrev pub stop_at : ℕ → List (List ℕ) → Bool → Stop
+stop_at n [] more = if more then Too_long (n + 1) else At_the_end
+stop_at n (line ∷ rest) more = if nat_le (length line) line_limit then Not_in_grammar (n + 1) else Too_long (n + 1)
+
+abbrev pub stop_of : List ℕ → Stop
+stop_of text =
+    stop_at (length (good_lines text)) (drop (length (good_lines text)) (script_lines text)) (nat_lt text_limit (length text))
+
+-- the image failed at line n
+abbrev pub has_failed : List ℕ → ℕ → Bool
+has_failed failures n = list_any (λ i. i == n) failures
+
+-- the history with what line n asks
+abbrev pub asked : List ℕ → ℕ → Step → History → History
+asked failures n step h = record { step = step; failed = has_failed failures n } ∷ h
+
+abbrev pub later_of : List ℕ → ℕ → Option (Option Step) → History → History
+later_of failures n (Some (Some step)) h = asked failures n step h
+later_of failures n _ h = h
+
+-- the history after some lines, of which the first is line n
+unfoldable pub history_after : List ℕ → ℕ → History → List (List ℕ) → History
+history_after failures n h [] = h
+history_after failures n h (line ∷ rest) = history_after failures (n + 1) (later_of failures n (served_reading line) h) rest
+
+-- the reply to line n
+abbrev pub reply_to : List ℕ → Setting → ℕ → History → Option (Option Step) → List ℕ
+reply_to failures x n h (Some (Some step)) = reply_line (reply x h step (has_failed failures n))
+reply_to failures x n h _ = []
+
+-- the replies to some lines after a history, of which the first is line n
+unfoldable pub out_from : List ℕ → Setting → ℕ → History → List (List ℕ) → List ℕ
+out_from failures x n h [] = []
+out_from failures x n h (line ∷ rest) =
+    reply_to failures x n h (served_reading line) ++ out_from failures x (n + 1) (later_of failures n (served_reading line) h) rest
+
+-- what is written for a script, where the image failed at these lines
+abbrev pub out : Setting → List ℕ → List ℕ → List ℕ
+out x text failures = out_from failures x 1 [] (good_lines text)
