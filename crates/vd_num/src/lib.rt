@@ -12,6 +12,7 @@ mod field;
 mod lines;
 mod name;
 mod number;
+mod steps;
 
 pub use bits::{DescFlags, Perm, Status};
 pub use bytes::Bytes;
@@ -20,3 +21,4 @@ pub use field::{get16, get32, get64, set16, set32, set64};
 pub use lines::Lines;
 pub use name::Name;
 pub use number::{Bus, PAGE_SIZE, Range, align_of, pages};
+pub use steps::{Steps, Words};
