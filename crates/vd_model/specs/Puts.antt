@@ -1,5 +1,5 @@
 -- Each byte of memory: the last one that was put, and where it came from.
-use Rattle.std.specs.Prelude.{ℕ, zero, suc, ◌+◌, ◌-◌, ◌*◌, ◌/◌, List, [], ◌∷◌, Bool, true, false, ◌==◌, nat_lt, nat_le, ◌&&◌, not, if◌then◌else◌, Option, Some, None, unwrap_or, slice_get}
+use Rattle.std.specs.Prelude.{ℕ, zero, suc, ◌+◌, ◌-◌, ◌*◌, ◌/◌, List, [], ◌∷◌, Bool, true, false, ◌==◌, nat_lt, nat_le, ◌&&◌, not, if◌then◌else◌, Option, Some, None, slice_get}
 use Rattle.std.specs.Option.{option_map, option_and_then}
 use Rattle.vd_num.specs.Number.{is_within}
 use Rattle.vd_model.specs.declared.memory.Dir.{Dir}
@@ -30,8 +30,10 @@ text_at bytes from at origin = option_map (λ b. record { byte = b; origin = ori
 abbrev pub a_zero : Put
 a_zero = record { byte = 0; origin = Zero }
 
-abbrev pub when : Bool → Put → Option Put
-when test put = if test then Some put else None
+-- a zero, where the test holds
+abbrev pub zero_if : Bool → Option Put
+zero_if true = Some a_zero
+zero_if false = None
 
 -- the mapping's bytes go to the device, and come from it
 abbrev pub is_to_device : Dir → Bool
@@ -56,18 +58,34 @@ abbrev pub address_of : Option Registration → ℕ → Option ℕ
 address_of None o = None
 address_of (Some r) o = if is_within r.base r.size o then Some (o - r.base) else None
 
+-- what was last put in a cell, where the test holds
+abbrev pub put_if : Bool → (Cell → Put) → Cell → Option Put
+put_if true before cell = Some (before cell)
+put_if false before cell = None
+
 -- the buffer's byte that stands for an address of the mapping, as the mapping hands it
+abbrev pub ram_cell : Streaming → ℕ → Cell
+ram_cell m a = Ram m.want.buffer (m.want.offset + (a - iova_of m))
+
 abbrev pub handed : (Cell → Put) → Streaming → ℕ → Put
-handed before m a = record { byte = (before (Ram m.want.buffer (m.want.offset + (a - iova_of m)))).byte; origin = Handed (Some m.number) }
+handed before m a = record { byte = (before (ram_cell m a)).byte; origin = Handed (Some m.number) }
+
+abbrev pub handed_if : Bool → (Cell → Put) → Streaming → ℕ → Option Put
+handed_if true before m a = Some (handed before m a)
+handed_if false before m a = None
+
+-- the first put, if there is one, and else the second
+abbrev pub or_put : Option Put → Option Put → Option Put
+or_put (Some put) other = Some put
+or_put None other = other
 
 -- what a driver's act puts at an address, where `before` is the last put in each cell before the act
 abbrev pub driver_put : ℕ → (Cell → Put) → List Act → DriverAct → ℕ → Option Put
 driver_put g before acts (Mapped m) a =
-    if is_to_device m.want.dir && maps_address m a
-    then Some (handed before m a)
-    else when (meets_page g (page_of g a) m && not (is_present g acts (page_of g a))) a_zero
-driver_put g before acts (Synced_device m) a = when (maps_address m a) (handed before m a)
-driver_put g before acts (Region_made r) a = when (region_covers r a) a_zero
+    or_put (handed_if (is_to_device m.want.dir && maps_address m a) before m a)
+    (zero_if (meets_page g (page_of g a) m && not (is_present g acts (page_of g a))))
+driver_put g before acts (Synced_device m) a = handed_if (maps_address m a) before m a
+driver_put g before acts (Region_made r) a = zero_if (region_covers r a)
 driver_put g before acts (Driver_put at bytes) a = text_at bytes at a (Handed None)
 driver_put g before acts _ a = None
 
@@ -80,13 +98,13 @@ address_put g before acts _ a = None
 -- what a mapping brings back to byte i of buffer k
 abbrev pub fetched : (Cell → Put) → List Act → Streaming → ℕ → ℕ → Option Put
 fetched before acts m k i =
-    when (is_from_device m.want.dir && (k == m.want.buffer) && is_within m.want.offset m.want.len i)
-    (before (home (registered acts) (iova_of m + (i - m.want.offset))))
+    put_if (is_from_device m.want.dir && (k == m.want.buffer) && is_within m.want.offset m.want.len i)
+    before (home (registered acts) (iova_of m + (i - m.want.offset)))
 
 -- what an act puts into byte i of buffer k
 abbrev pub ram_put : (Cell → Put) → List Act → Act → ℕ → ℕ → Option Put
 ram_put before acts (Driver (Buffer bytes)) k i = if k == buffers acts then text_at bytes 0 i (Handed None) else None
-ram_put before acts (Driver (Zeroed len)) k i = when ((k == buffers acts) && nat_lt i len) a_zero
+ram_put before acts (Driver (Zeroed len)) k i = zero_if ((k == buffers acts) && nat_lt i len)
 ram_put before acts (Driver (Poked buffer at bytes)) k i = if k == buffer then text_at bytes at i (Handed None) else None
 ram_put before acts (Driver (Unmapped m)) k i = fetched before acts m k i
 ram_put before acts (Driver (Synced_cpu m)) k i = fetched before acts m k i
@@ -95,18 +113,23 @@ ram_put before acts _ k i = None
 -- what the end of a registration gives back to the store of an address
 abbrev pub handed_back : ℕ → (Cell → Put) → List Act → Option Registration → ℕ → Option Put
 handed_back g before acts None a = None
-handed_back g before acts (Some r) a = when (nat_lt a r.size && in_use g acts (page_of g a)) (before (Area (r.base + a)))
+handed_back g before acts (Some r) a = put_if (nat_lt a r.size && in_use g acts (page_of g a)) before (Area (r.base + a))
+
+-- the put at an address, unless its cell is in the area
+abbrev pub address_put_if : Bool → ℕ → (Cell → Put) → List Act → Act → ℕ → Option Put
+address_put_if true g before acts act a = None
+address_put_if false g before acts act a = address_put g before acts act a
 
 -- what an act puts into the store of an address
 abbrev pub iova_put : ℕ → (Cell → Put) → List Act → Act → ℕ → Option Put
 iova_put g before acts (Node Deregistered) a = handed_back g before acts (registered acts) a
-iova_put g before acts act a = if is_moved (registered acts) a then None else address_put g before acts act a
+iova_put g before acts act a = address_put_if (is_moved (registered acts) a) g before acts act a
 
 -- what an act puts into byte o of the area
 abbrev pub area_put : ℕ → (Cell → Put) → List Act → Act → ℕ → Option Put
-area_put g before acts (Node (Area_made len)) o = when (nat_lt o len) a_zero
+area_put g before acts (Node (Area_made len)) o = zero_if (nat_lt o len)
 area_put g before acts (Node (Area_put at bytes)) o = text_at bytes at o Daemon
-area_put g before acts (Node (Registered base size)) o = when (is_within base size o && in_use g acts (page_of g (o - base))) (before (Iova (o - base)))
+area_put g before acts (Node (Registered base size)) o = put_if (is_within base size o && in_use g acts (page_of g (o - base))) before (Iova (o - base))
 area_put g before acts act o = option_and_then (address_put g before acts act) (address_of (registered acts) o)
 
 -- what an act puts into a cell
@@ -115,10 +138,15 @@ put_at g before acts act (Iova a) = iova_put g before acts act a
 put_at g before acts act (Area o) = area_put g before acts act o
 put_at g before acts act (Ram k i) = ram_put before acts act k i
 
+-- a put, if there is one, and else the last one before it
+abbrev pub put_or : Option Put → (Cell → Put) → Cell → Put
+put_or (Some put) before cell = put
+put_or None before cell = before cell
+
 -- the last put into a cell, and a zero before the first
 abbrev pub last_put : ℕ → List Act → Cell → Put
 last_put g [] cell = a_zero
-last_put g (act ∷ acts) cell = unwrap_or (put_at g (last_put g acts) acts act cell) (last_put g acts cell)
+last_put g (act ∷ acts) cell = put_or (put_at g (last_put g acts) acts act cell) (last_put g acts) cell
 
 -- byte i of buffer k
 abbrev pub ram : ℕ → List Act → ℕ → ℕ → ℕ
