@@ -1,0 +1,44 @@
+//! What a pass has done and seen. These types are for contracts: no value of them is made.
+use crate::word::{Kind, Side, Word};
+use std::collections::LinkedList;
+
+/// Bytes that were drawn at once, under one stamp, for the addresses from `base` on.
+pub struct Entry {
+    pub stamp: u64,
+    pub kind: Kind,
+    pub base: u64,
+    pub bytes: LinkedList<u8>,
+}
+
+/// A word that was stored in a cell, or loaded from it.
+pub struct Access {
+    pub side: Side,
+    pub at: u64,
+    pub word: Word,
+}
+
+/// A page was made present on this side, or absent.
+pub struct PageStore {
+    pub page: u64,
+    pub side: Option<Side>,
+}
+
+/// A page was found present on this side, or absent. `stored` says whether its pass had made that
+/// page present by then.
+pub struct PageRead {
+    pub page: u64,
+    pub side: Option<Side>,
+    pub stored: bool,
+}
+
+/// The steps of a pass, each list in their order, the stamps that it may still draw, and its share
+/// of all 2^47 stamps.
+pub struct View {
+    pub entries: LinkedList<Entry>,
+    pub puts: LinkedList<Access>,
+    pub reads: LinkedList<Access>,
+    pub page_stores: LinkedList<PageStore>,
+    pub page_reads: LinkedList<PageRead>,
+    pub left: u64,
+    pub quota: u64,
+}
