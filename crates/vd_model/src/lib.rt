@@ -6,6 +6,7 @@
 #![tactic(auto)]
 
 mod answer;
+mod descriptor;
 mod items;
 mod memory;
 mod message;
@@ -14,6 +15,7 @@ mod queue;
 mod step;
 
 pub use answer::{Answer, ChainFault, ChainKind, Item, Tag};
+pub use descriptor::{Descriptor, Position, Table};
 pub use items::Items;
 pub use memory::{Dir, MapError, MapInfo, Mapping, Origin, Region, Want, Window};
 pub use message::{Body, Message, Sent, TakeAnswer};
