@@ -1,0 +1,4 @@
+pub mod Mem
+pub mod MemLemmas
+pub mod Reach
+pub mod ReachLemmas
