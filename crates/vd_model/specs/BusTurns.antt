@@ -61,7 +61,7 @@ send_turn now done body =
     refuse (given (is_broken (message_acts done)) Io)
     (refuse (given (next_id device_start (message_acts done) == id_limit) Nospc)
     (done_with (Word Id ∷ Number (next_id device_start (message_acts done)) ∷ [])
-      (Message_act (Sent (message_of device_start (message_acts done) body now)) ∷ [])))
+    (Message_act (Sent (message_of device_start (message_acts done) body now)) ∷ [])))
 
 -- a reset is a message of the status 0; on a broken device it is refused, and then done at once
 abbrev pub reset_turn : ℕ → List Act → Turn Act

@@ -83,7 +83,7 @@ abbrev pub walk_turn : Setting → Creation → List Act → ℕ → ℕ → Tur
 walk_turn x made done q head =
     refuse (given (is_missing made q || ((queue_place done q).size == 0)) Inval)
     (chain_or (ending_of (start_of (queue_place done q) head (has_indirect done)) (daemon_memory x done))
-      (λ chain. done_with (Word tag.Parts ∷ Number (length chain.parts) ∷ Word tag.Readable ∷ Number chain.readable ∷ Word tag.Writable ∷ Number chain.writable ∷ []) []))
+    (λ chain. done_with (Word tag.Parts ∷ Number (length chain.parts) ∷ Word tag.Readable ∷ Number chain.readable ∷ Word tag.Writable ∷ Number chain.writable ∷ []) []))
 
 -- ---- fetch
 
@@ -128,7 +128,7 @@ abbrev pub fetch_chain : Setting → List Act → ℕ → RingPlace → ℕ → 
 fetch_chain x done q place position chain =
     request_or chain
     (read_or (readable_bytes (daemon_memory x done) chain.parts)
-      (λ bytes. event_or x done place (fetched_turn done q place position chain bytes)))
+    (λ bytes. event_or x done place (fetched_turn done q place position chain bytes)))
 
 -- the head in the slot of the position, and its chain
 abbrev pub fetch_at : Setting → List Act → ℕ → RingPlace → ℕ → Turn Act
@@ -254,9 +254,9 @@ abbrev pub finish_hand : Setting → List Act → ℕ → RingPlace → ℕ → 
 finish_hand x done q place used h end =
     unwritable_or (daemon_memory x done) h.parts
     (read_or (read (daemon_memory x done) (used_element_at place used) 8) (λ element.
-     read_or (read (daemon_memory x done) (used_index_at place) 2) (λ index.
-     read_or (read (daemon_memory x done) (deciding_field done place) 2) (λ field.
-     finished_turn x done q place used h (finish_puts place used h end)))))
+    read_or (read (daemon_memory x done) (used_index_at place) 2) (λ index.
+    read_or (read (daemon_memory x done) (deciding_field done place) 2) (λ field.
+    finished_turn x done q place used h (finish_puts place used h end)))))
 
 -- the device's used index: the one that the first fetch loaded, and one more for each request finished since
 abbrev pub used_position : Setting → List Act → ℕ → ℕ
@@ -269,5 +269,5 @@ abbrev pub finish_turn : Setting → Creation → List Act → ℕ → Turn Act
 finish_turn x made done q =
     refuse (given (is_missing made q) Inval)
     (option_map_or (λ earlier.
-      option_map_or (λ end. finish_hand x done q (queue_place done q) (used_position x done q) (hand x earlier q) end) (executed done q) (refused Noent))
-      (in_hand done q) (refused Noent))
+    option_map_or (λ end. finish_hand x done q (queue_place done q) (used_position x done q) (hand x earlier q) end) (executed done q) (refused Noent))
+    (in_hand done q) (refused Noent))

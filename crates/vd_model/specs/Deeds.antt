@@ -88,5 +88,5 @@ seen x name done = record {
   acts = own name done;
   now = clock done;
   window = window_of name done;
-  disk = λ j. image_byte x done (window_start name done + j)
+  disk = λ j. image_byte x done (window_start name done + j);
 }

@@ -56,7 +56,7 @@ abbrev pub ring_made : List Act → ℕ → ℕ → ℕ → Turn Act
 ring_made done q size slot =
     done_with (ring_items (regions done) (ring_at size slot))
     (Queue (Ring_made q (ring_at size slot) (regions done))
-      ∷ Driver (Region_made (record { number = regions done; slot = slot; len = ring_bytes size })) ∷ [])
+    ∷ Driver (Region_made (record { number = regions done; slot = slot; len = ring_bytes size })) ∷ [])
 
 -- a size is a power of two up to 32,768
 abbrev pub is_ring_size : ℕ → Bool
@@ -115,10 +115,10 @@ region_freed held region = option_map_or (λ r. Driver (Region_freed r) ∷ []) 
 abbrev pub unring_turn : Creation → List Act → ℕ → Turn Act
 unring_turn made done q =
     on_ring made done q (λ ring.
-      refuse (given (is_ready (state_acts done) q) Busy)
-      (done_with []
-        (Queue (Ring_dropped q) ∷ region_freed (live_regions done) ring.region
-          ++ requests_ended (live done) (by_head (out done q) ring.place.size))))
+    refuse (given (is_ready (state_acts done) q) Busy)
+    (done_with []
+    (Queue (Ring_dropped q) ∷ region_freed (live_regions done) ring.region
+    ++ requests_ended (live done) (by_head (out done q) ring.place.size))))
 
 -- ---- adding chains
 
@@ -166,10 +166,10 @@ is_full size chains n = nat_lt (length (free size chains)) n
 abbrev pub add_turn : Creation → List Act → ℕ → List Part → Turn Act
 add_turn made done q parts =
     on_ring made done q (λ ring.
-      refuse (given (is_out_of_order parts) Inval)
-      (refuse (given (is_full ring.place.size (out done q) (length parts)) Nospc)
-      (done_with (Word tag.Head ∷ Number (first_of (free ring.place.size (out done q))) ∷ [])
-        (chain_acts done q ring.place parts (take (length parts) (free ring.place.size (out done q))) None))))
+    refuse (given (is_out_of_order parts) Inval)
+    (refuse (given (is_full ring.place.size (out done q) (length parts)) Nospc)
+    (done_with (Word tag.Head ∷ Number (first_of (free ring.place.size (out done q))) ∷ [])
+    (chain_acts done q ring.place parts (take (length parts) (free ring.place.size (out done q))) None))))
 
 -- ---- publishing
 
@@ -311,7 +311,7 @@ request_acts done q ring indirect a ms parts ds =
     Queue (Chain_added q (record {
       head = first_of ds;
       descriptors = ds;
-      request = Some (record { buffer = buffers done; buffers = (if indirect then 2 else 1); maps = map (λ m. m.number) ms; writable = writable_of parts })
+      request = Some (record { buffer = buffers done; buffers = (if indirect then 2 else 1); maps = map (λ m. m.number) ms; writable = writable_of parts });
     }))
     ∷ slot_put ring.place (added done q) (first_of ds)
     ∷ request_puts indirect ring.place a ms parts ds ++ map_acts ms ++ buffer_acts indirect a parts
@@ -333,9 +333,9 @@ submit_asked x made done q ring indirect a =
     (refuse (given (nat_lt buffer_limit (buffered done + made_len indirect a)) Nospc)
     (refuse (given (is_full ring.place.size (out done q) (needed indirect a)) Nospc)
     (option_map_or
-      (λ ms. submitted x done q ring indirect a ms (take (needed indirect a) (free ring.place.size (out done q))))
-      (placed x (taken done) (maps done) (part_wants (buffers done) a ++ table_wants indirect (buffers done) a))
-      (refused Nospc))))
+    (λ ms. submitted x done q ring indirect a ms (take (needed indirect a) (free ring.place.size (out done q))))
+    (placed x (taken done) (maps done) (part_wants (buffers done) a ++ table_wants indirect (buffers done) a))
+    (refused Nospc))))
 
 abbrev pub submit_turn : Setting → Creation → List Act → ℕ → SubmitForm → Turn Act
 submit_turn x made done q asked = on_ring made done q (λ ring. submit_asked x made done q ring (has_indirect done) (asked_by asked))
@@ -354,27 +354,27 @@ completed x done acts chain len = by chain.request where
   by None = done_with (Word tag.Head ∷ Number chain.head ∷ Word tag.Len ∷ Number len ∷ []) acts
   by (Some r) =
       done_with
-        (Word tag.Head ∷ Number chain.head ∷ Word tag.Len ∷ Number len ∷ Word tag.Status
-          ∷ (if nat_lt len r.writable then Word tag.Dash else Number (ram x.per_page (unmaps (live done) r.maps ++ done) r.buffer 16)) ∷ [])
-        (request_ended (live done) r ++ acts)
+      (Word tag.Head ∷ Number chain.head ∷ Word tag.Len ∷ Number len ∷ Word tag.Status
+      ∷ (if nat_lt len r.writable then Word tag.Dash else Number (ram x.per_page (unmaps (live done) r.maps ++ done) r.buffer 16)) ∷ [])
+      (request_ended (live done) r ++ acts)
 
 -- the next used element, where its id is the head of a published chain
 abbrev pub reclaimed_turn : Setting → List Act → ℕ → RingPlace → ℕ → ℕ → Turn Act
 reclaimed_turn x done q r id len =
     option_map_or
-      (λ chain. completed x done (Queue (Chain_reclaimed q chain.head) ∷ used_event_puts done r (reclaimed done q + 1)) chain len)
-      (find (λ chain. chain.head == id) (published_out done q))
-      (record { answer = answer.BadId id; acts = [] })
+    (λ chain. completed x done (Queue (Chain_reclaimed q chain.head) ∷ used_event_puts done r (reclaimed done q + 1)) chain len)
+    (find (λ chain. chain.head == id) (published_out done q))
+    (record { answer = answer.BadId id; acts = [] })
 
 -- the used index is ahead of all that was published
 abbrev pub polled : Setting → List Act → ℕ → RingPlace → ℕ → Turn Act
 polled x done q r used =
     refuse (given (used == reclaimed done q % 65536) Again)
     (if nat_lt (length (published_out done q)) (minus16 used (reclaimed done q % 65536))
-     then record { answer = answer.UsedAhead used (published done q % 65536); acts = [] }
-     else reclaimed_turn x done q r
-       (field_at 4 (bus_bytes x.per_page done (used_element_at r (reclaimed done q)) 8) 0)
-       (field_at 4 (bus_bytes x.per_page done (used_element_at r (reclaimed done q)) 8) 4))
+    then record { answer = answer.UsedAhead used (published done q % 65536); acts = [] }
+    else reclaimed_turn x done q r
+    (field_at 4 (bus_bytes x.per_page done (used_element_at r (reclaimed done q)) 8) 0)
+    (field_at 4 (bus_bytes x.per_page done (used_element_at r (reclaimed done q)) 8) 4))
 
 abbrev pub poll_turn : Setting → Creation → List Act → ℕ → Turn Act
 poll_turn x made done q = on_ring made done q (λ ring. polled x done q ring.place (number_at x done (used_index_at ring.place)))

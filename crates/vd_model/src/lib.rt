@@ -6,8 +6,8 @@
 #![tactic(auto)]
 
 mod answer;
-mod descriptor;
 mod built;
+mod descriptor;
 mod items;
 mod memory;
 mod message;
@@ -17,8 +17,8 @@ mod step;
 mod word;
 
 pub use answer::{Answer, ChainFault, ChainKind, Item, Tag};
-pub use descriptor::{Descriptor, Position, Table};
 pub use built::served;
+pub use descriptor::{Descriptor, Position, Table};
 pub use items::Items;
 pub use memory::{Dir, MapError, MapInfo, Mapping, Origin, Region, Want, Window};
 pub use message::{Body, Message, Sent, TakeAnswer};
