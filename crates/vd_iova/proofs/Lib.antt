@@ -1,0 +1,9 @@
+pub mod Masks
+pub mod Multiples
+pub mod Pieces
+pub mod Places
+pub mod Powers
+pub mod Ranges
+pub mod Runs
+pub mod Searches
+pub mod Summaries
