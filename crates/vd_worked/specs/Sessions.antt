@@ -126,4 +126,3 @@ abbrev pub Timeout : Type 0
 Timeout = told (setting 16384 32768 1 2048)
     (codes "dev v" ∷ codes "setstatus v 1" ∷ codes "setstatus v 3" ∷ codes "tick 29" ∷ codes "take v 0" ∷ codes "tick 1" ∷ codes "take v 0" ∷ codes "take v 1" ∷ codes "setstatus v 7" ∷ codes "recv v" ∷ [])
     ≡ (codes "ok session 0" ∷ codes "ok id 0" ∷ codes "ok id 1" ∷ codes "ok 29" ∷ codes "pending" ∷ codes "ok 30" ∷ codes "failed timeout 30 30" ∷ codes "failed timeout 30 30" ∷ codes "err 5" ∷ codes "err 11" ∷ [])
-

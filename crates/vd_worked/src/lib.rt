@@ -33,5 +33,4 @@ pub fn sessions()
     ensures short_tail { ShortTail }
     ensures timeout_none { TimeoutNone }
     ensures timeout { Timeout }
-{
-}
+{}
