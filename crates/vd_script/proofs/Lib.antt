@@ -1,0 +1,16 @@
+pub mod Cutting
+pub mod Numbers
+pub mod HexDigits
+pub mod Parts
+pub mod Lines
+pub mod Kept
+pub mod FormsKept
+pub mod PartsKept
+pub mod RowKept
+pub mod ControlRows
+pub mod NodeRows
+pub mod AreaRows
+pub mod BusRows
+pub mod DriverRows
+pub mod QueueRows
+pub mod StepsKept

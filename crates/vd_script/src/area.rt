@@ -1,0 +1,141 @@
+//! The daemon's lines on regions, on its area and on memory, both ways.
+
+ghost use Rattle.std.specs.Prelude.{◌≡◌, ◌++◌, OnOk};
+ghost use Rattle.std.specs.List.{join_with_byte};
+ghost use Rattle.vd_script.specs.Gives.{Gives};
+ghost use Rattle.vd_model.specs.AreaLines.{area_form, area_text};
+ghost use Rattle.vd_model.specs.Spelling.{with_name};
+
+use crate::error::LineError;
+use crate::put::{begin, put_hex, put_number};
+use crate::words::Words;
+use std::alloc::{AllocError, Global};
+use vd_model::{AreaStep, AreaWord, Bytes, Name};
+
+/// The step that the words behind the first word and the name say.
+pub fn area_step(
+    alloc: Global,
+    word: AreaWord,
+    words: &mut Words<'_>,
+) -> Result<AreaStep, LineError>
+    ensures { Gives result (area_form word words.old) }
+{
+    match word {
+        AreaWord::Lookup => {
+            let step = AreaStep::Lookup {
+                start: words.u64()?,
+                last: words.u64()?,
+            };
+            words.done(step)
+        }
+        AreaWord::IovaInfo => {
+            let step = AreaStep::IovaInfo {
+                start: words.u64()?,
+                last: words.u64()?,
+            };
+            words.done(step)
+        }
+        AreaWord::Area => {
+            let step = AreaStep::Area {
+                bytes: words.u64()?,
+            };
+            words.done(step)
+        }
+        AreaWord::AreaPut => {
+            let step = AreaStep::AreaPut {
+                offset: words.u64()?,
+                bytes: words.hex(alloc)?,
+            };
+            words.done(step)
+        }
+        AreaWord::AreaGet => {
+            let step = AreaStep::AreaGet {
+                offset: words.u64()?,
+                len: words.length()?,
+            };
+            words.done(step)
+        }
+        AreaWord::RegUmem => {
+            let step = AreaStep::RegUmem {
+                uaddr: words.u64()?,
+                iova: words.u64()?,
+                size: words.u64()?,
+            };
+            words.done(step)
+        }
+        AreaWord::DeregUmem => {
+            let step = AreaStep::DeregUmem {
+                iova: words.u64()?,
+                size: words.u64()?,
+            };
+            words.done(step)
+        }
+        AreaWord::Load => {
+            let step = AreaStep::Load {
+                addr: words.u64()?,
+                len: words.length()?,
+            };
+            words.done(step)
+        }
+        AreaWord::Store => {
+            let step = AreaStep::Store {
+                addr: words.u64()?,
+                bytes: words.hex(alloc)?,
+            };
+            words.done(step)
+        }
+    }
+}
+
+/// Appends the step's line.
+pub fn print_area(name: &Name, step: &AreaStep, into: &mut Bytes) -> Result<(), AllocError>
+    ensures { OnOk result (into.new ≡ into.old ++ join_with_byte 32 (with_name name.now (area_text step.now))) }
+{
+    match step {
+        AreaStep::Lookup { start, last } => {
+            begin(into, AreaWord::Lookup.text(), name)?;
+            put_number(into, *start)?;
+            put_number(into, *last)
+        }
+        AreaStep::IovaInfo { start, last } => {
+            begin(into, AreaWord::IovaInfo.text(), name)?;
+            put_number(into, *start)?;
+            put_number(into, *last)
+        }
+        AreaStep::Area { bytes } => {
+            begin(into, AreaWord::Area.text(), name)?;
+            put_number(into, *bytes)
+        }
+        AreaStep::AreaPut { offset, bytes } => {
+            begin(into, AreaWord::AreaPut.text(), name)?;
+            put_number(into, *offset)?;
+            put_hex(into, bytes)
+        }
+        AreaStep::AreaGet { offset, len } => {
+            begin(into, AreaWord::AreaGet.text(), name)?;
+            put_number(into, *offset)?;
+            put_number(into, *len)
+        }
+        AreaStep::RegUmem { uaddr, iova, size } => {
+            begin(into, AreaWord::RegUmem.text(), name)?;
+            put_number(into, *uaddr)?;
+            put_number(into, *iova)?;
+            put_number(into, *size)
+        }
+        AreaStep::DeregUmem { iova, size } => {
+            begin(into, AreaWord::DeregUmem.text(), name)?;
+            put_number(into, *iova)?;
+            put_number(into, *size)
+        }
+        AreaStep::Load { addr, len } => {
+            begin(into, AreaWord::Load.text(), name)?;
+            put_number(into, *addr)?;
+            put_number(into, *len)
+        }
+        AreaStep::Store { addr, bytes } => {
+            begin(into, AreaWord::Store.text(), name)?;
+            put_number(into, *addr)?;
+            put_hex(into, bytes)
+        }
+    }
+}

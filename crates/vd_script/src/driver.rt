@@ -1,0 +1,204 @@
+//! The driver's lines on buffers, mappings and coherent regions, both ways.
+
+ghost use Rattle.std.specs.Prelude.{◌≡◌, ◌++◌, OnOk};
+ghost use Rattle.std.specs.List.{join_with_byte};
+ghost use Rattle.vd_script.specs.Gives.{Gives};
+ghost use Rattle.vd_model.specs.DriverLines.{driver_form, driver_text};
+ghost use Rattle.vd_model.specs.Spelling.{with_name};
+
+use crate::error::LineError;
+use crate::put::{begin, put_dir, put_hex, put_number};
+use crate::words::Words;
+use std::alloc::{AllocError, Global};
+use vd_model::{Bytes, DriverStep, DriverWord, Name};
+
+/// The step that the words behind the first word and the name say.
+pub fn driver_step(
+    alloc: Global,
+    word: DriverWord,
+    words: &mut Words<'_>,
+) -> Result<DriverStep, LineError>
+    ensures { Gives result (driver_form word words.old) }
+{
+    match word {
+        DriverWord::Buf => {
+            let step = DriverStep::Buf {
+                bytes: words.hex(alloc)?,
+            };
+            words.done(step)
+        }
+        DriverWord::Zeros => {
+            let step = DriverStep::Zeros {
+                len: words.number_in(1, u64::MAX)?,
+            };
+            words.done(step)
+        }
+        DriverWord::Free => {
+            let step = DriverStep::Free {
+                buffer: words.u64()?,
+            };
+            words.done(step)
+        }
+        DriverWord::Poke => {
+            let step = DriverStep::Poke {
+                buffer: words.u64()?,
+                offset: words.u64()?,
+                bytes: words.hex(alloc)?,
+            };
+            words.done(step)
+        }
+        DriverWord::Peek => {
+            let step = DriverStep::Peek {
+                buffer: words.u64()?,
+                offset: words.u64()?,
+                len: words.length()?,
+            };
+            words.done(step)
+        }
+        DriverWord::Map => {
+            let step = DriverStep::Map {
+                buffer: words.u64()?,
+                offset: words.u64()?,
+                len: words.u64()?,
+                dir: words.dir()?,
+            };
+            words.done(step)
+        }
+        DriverWord::Unmap => {
+            let step = DriverStep::Unmap {
+                mapping: words.u64()?,
+            };
+            words.done(step)
+        }
+        DriverWord::SyncDev => {
+            let step = DriverStep::SyncDev {
+                mapping: words.u64()?,
+            };
+            words.done(step)
+        }
+        DriverWord::SyncCpu => {
+            let step = DriverStep::SyncCpu {
+                mapping: words.u64()?,
+            };
+            words.done(step)
+        }
+        DriverWord::Coherent => {
+            let step = DriverStep::Coherent { len: words.u64()? };
+            words.done(step)
+        }
+        DriverWord::FreeCoherent => {
+            let step = DriverStep::FreeCoherent {
+                region: words.u64()?,
+            };
+            words.done(step)
+        }
+        DriverWord::Cput => {
+            let step = DriverStep::Cput {
+                region: words.u64()?,
+                offset: words.u64()?,
+                bytes: words.hex(alloc)?,
+            };
+            words.done(step)
+        }
+        DriverWord::Cget => {
+            let step = DriverStep::Cget {
+                region: words.u64()?,
+                offset: words.u64()?,
+                len: words.length()?,
+            };
+            words.done(step)
+        }
+    }
+}
+
+/// Appends the step's line.
+pub fn print_driver(name: &Name, step: &DriverStep, into: &mut Bytes) -> Result<(), AllocError>
+    ensures { OnOk result (into.new ≡ into.old ++ join_with_byte 32 (with_name name.now (driver_text step.now))) }
+{
+    match step {
+        DriverStep::Buf { bytes } => {
+            begin(into, DriverWord::Buf.text(), name)?;
+            put_hex(into, bytes)
+        }
+        DriverStep::Zeros { len } => {
+            begin(into, DriverWord::Zeros.text(), name)?;
+            put_number(into, *len)
+        }
+        DriverStep::Free { buffer } => {
+            begin(into, DriverWord::Free.text(), name)?;
+            put_number(into, *buffer)
+        }
+        DriverStep::Poke {
+            buffer,
+            offset,
+            bytes,
+        } => {
+            begin(into, DriverWord::Poke.text(), name)?;
+            put_number(into, *buffer)?;
+            put_number(into, *offset)?;
+            put_hex(into, bytes)
+        }
+        DriverStep::Peek {
+            buffer,
+            offset,
+            len,
+        } => {
+            begin(into, DriverWord::Peek.text(), name)?;
+            put_number(into, *buffer)?;
+            put_number(into, *offset)?;
+            put_number(into, *len)
+        }
+        DriverStep::Map {
+            buffer,
+            offset,
+            len,
+            dir,
+        } => {
+            begin(into, DriverWord::Map.text(), name)?;
+            put_number(into, *buffer)?;
+            put_number(into, *offset)?;
+            put_number(into, *len)?;
+            put_dir(into, *dir)
+        }
+        DriverStep::Unmap { mapping } => {
+            begin(into, DriverWord::Unmap.text(), name)?;
+            put_number(into, *mapping)
+        }
+        DriverStep::SyncDev { mapping } => {
+            begin(into, DriverWord::SyncDev.text(), name)?;
+            put_number(into, *mapping)
+        }
+        DriverStep::SyncCpu { mapping } => {
+            begin(into, DriverWord::SyncCpu.text(), name)?;
+            put_number(into, *mapping)
+        }
+        DriverStep::Coherent { len } => {
+            begin(into, DriverWord::Coherent.text(), name)?;
+            put_number(into, *len)
+        }
+        DriverStep::FreeCoherent { region } => {
+            begin(into, DriverWord::FreeCoherent.text(), name)?;
+            put_number(into, *region)
+        }
+        DriverStep::Cput {
+            region,
+            offset,
+            bytes,
+        } => {
+            begin(into, DriverWord::Cput.text(), name)?;
+            put_number(into, *region)?;
+            put_number(into, *offset)?;
+            put_hex(into, bytes)
+        }
+        DriverStep::Cget {
+            region,
+            offset,
+            len,
+        } => {
+            begin(into, DriverWord::Cget.text(), name)?;
+            put_number(into, *region)?;
+            put_number(into, *offset)?;
+            put_number(into, *len)
+        }
+    }
+}

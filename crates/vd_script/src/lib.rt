@@ -1,0 +1,31 @@
+//! The lines of a script, both ways: a line is read as a step, a step and an answer are written.
+//!
+//! It stands on `vd_model`, which has the steps, the answers and the grammar as definitions.
+//! `read_line` accepts exactly the grammar: a step, nothing for an empty line and a comment, and
+//! `Bad` for every other line. What `print_step` writes of a step that was read is read as that
+//! step again. `print_answer` writes exactly the reply line.
+#![tactic(auto)]
+
+mod area;
+mod bus;
+mod control;
+mod digits;
+mod driver;
+mod error;
+mod keyword;
+mod node;
+mod number;
+mod print;
+mod put;
+mod queue;
+mod read;
+mod reply;
+mod words;
+
+pub use error::LineError;
+pub use print::print_step;
+pub use read::read_line;
+pub use reply::print_answer;
+
+#[cfg(test)]
+mod tests;

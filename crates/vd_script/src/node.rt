@@ -1,0 +1,153 @@
+//! The daemon's lines on its device node, but for those on memory, both ways.
+
+ghost use Rattle.std.specs.Prelude.{◌≡◌, ◌++◌, OnOk};
+ghost use Rattle.std.specs.List.{join_with_byte};
+ghost use Rattle.vd_script.specs.Gives.{Gives};
+ghost use Rattle.vd_model.specs.NodeLines.{node_form, node_text};
+ghost use Rattle.vd_model.specs.Spelling.{with_name};
+
+use crate::error::LineError;
+use crate::put::{begin, put_flag, put_hex, put_number, put_optional_hex};
+use crate::words::Words;
+use std::alloc::{AllocError, Global};
+use vd_model::{Bytes, Name, NodeStep, NodeWord};
+
+/// The step that the words behind the first word and the name say.
+pub fn node_step(
+    alloc: Global,
+    word: NodeWord,
+    words: &mut Words<'_>,
+) -> Result<NodeStep, LineError>
+    ensures { Gives result (node_form word words.old) }
+{
+    match word {
+        NodeWord::Open => words.done(NodeStep::Open),
+        NodeWord::Close => words.done(NodeStep::Close),
+        NodeWord::Features => words.done(NodeStep::Features),
+        NodeWord::SetConfig => {
+            let step = NodeStep::SetConfig {
+                offset: words.u64()?,
+                bytes: words.hex(alloc)?,
+            };
+            words.done(step)
+        }
+        NodeWord::ConfigIrq => words.done(NodeStep::ConfigIrq),
+        NodeWord::VqSetup => {
+            let step = NodeStep::VqSetup {
+                queue: words.u32()?,
+                max: words.u16()?,
+            };
+            words.done(step)
+        }
+        NodeWord::VqInfo => {
+            let step = NodeStep::VqInfo {
+                queue: words.u32()?,
+            };
+            words.done(step)
+        }
+        NodeWord::KickFd => {
+            let step = NodeStep::KickFd {
+                queue: words.u32()?,
+                flag: words.flag()?,
+            };
+            words.done(step)
+        }
+        NodeWord::Kicks => {
+            let step = NodeStep::Kicks {
+                queue: words.u32()?,
+            };
+            words.done(step)
+        }
+        NodeWord::Irq => {
+            let step = NodeStep::Irq {
+                queue: words.u32()?,
+            };
+            words.done(step)
+        }
+        NodeWord::Recv => words.done(NodeStep::Recv),
+        NodeWord::Answer => {
+            let step = NodeStep::Answer {
+                id: words.u32()?,
+                reply: words.u32()?,
+                avail: words.u16()?,
+            };
+            words.done(step)
+        }
+        NodeWord::Read => {
+            let step = NodeStep::Read { len: words.u32()? };
+            words.done(step)
+        }
+        NodeWord::Write => {
+            let step = NodeStep::Write {
+                bytes: words.hex(alloc)?,
+            };
+            words.done(step)
+        }
+        NodeWord::Ioctl => {
+            let step = NodeStep::Ioctl {
+                number: words.u64()?,
+                bytes: words.optional_hex(alloc)?,
+            };
+            words.done(step)
+        }
+    }
+}
+
+/// Appends the step's line.
+pub fn print_node(name: &Name, step: &NodeStep, into: &mut Bytes) -> Result<(), AllocError>
+    ensures { OnOk result (into.new ≡ into.old ++ join_with_byte 32 (with_name name.now (node_text step.now))) }
+{
+    match step {
+        NodeStep::Open => begin(into, NodeWord::Open.text(), name),
+        NodeStep::Close => begin(into, NodeWord::Close.text(), name),
+        NodeStep::Features => begin(into, NodeWord::Features.text(), name),
+        NodeStep::SetConfig { offset, bytes } => {
+            begin(into, NodeWord::SetConfig.text(), name)?;
+            put_number(into, *offset)?;
+            put_hex(into, bytes)
+        }
+        NodeStep::ConfigIrq => begin(into, NodeWord::ConfigIrq.text(), name),
+        NodeStep::VqSetup { queue, max } => {
+            begin(into, NodeWord::VqSetup.text(), name)?;
+            put_number(into, u64::from(*queue))?;
+            put_number(into, u64::from(*max))
+        }
+        NodeStep::VqInfo { queue } => {
+            begin(into, NodeWord::VqInfo.text(), name)?;
+            put_number(into, u64::from(*queue))
+        }
+        NodeStep::KickFd { queue, flag } => {
+            begin(into, NodeWord::KickFd.text(), name)?;
+            put_number(into, u64::from(*queue))?;
+            put_flag(into, *flag)
+        }
+        NodeStep::Kicks { queue } => {
+            begin(into, NodeWord::Kicks.text(), name)?;
+            put_number(into, u64::from(*queue))
+        }
+        NodeStep::Irq { queue } => {
+            begin(into, NodeWord::Irq.text(), name)?;
+            put_number(into, u64::from(*queue))
+        }
+        NodeStep::Recv => begin(into, NodeWord::Recv.text(), name),
+        NodeStep::Answer { id, reply, avail } => {
+            begin(into, NodeWord::Answer.text(), name)?;
+            put_number(into, u64::from(*id))?;
+            put_number(into, u64::from(*reply))?;
+            put_number(into, u64::from(*avail))
+        }
+        NodeStep::Read { len } => {
+            begin(into, NodeWord::Read.text(), name)?;
+            put_number(into, u64::from(*len))
+        }
+        NodeStep::Write { bytes } => {
+            begin(into, NodeWord::Write.text(), name)?;
+            put_hex(into, bytes)
+        }
+        NodeStep::Ioctl { number, bytes } => {
+            begin(into, NodeWord::Ioctl.text(), name)?;
+            put_number(into, *number)?;
+            put_optional_hex(into, bytes)
+        }
+    }
+}

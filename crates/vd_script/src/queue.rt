@@ -1,0 +1,213 @@
+//! The lines on rings, chains and requests, both ways.
+
+ghost use Rattle.std.specs.Prelude.{◌≡◌, ◌++◌, OnOk};
+ghost use Rattle.std.specs.List.{join_with_byte};
+ghost use Rattle.vd_script.specs.Gives.{Gives};
+ghost use Rattle.vd_model.specs.QueueLines.{queue_form, queue_text};
+ghost use Rattle.vd_model.specs.Spelling.{with_name};
+ghost use Rattle.vd_model.specs.Forms.{part_field, parts_form, submit_form};
+ghost use Rattle.vd_model.specs.declared.step.QueueStep.TheVariants.{Add, Submit};
+
+use crate::error::LineError;
+use crate::put::{begin, put_number, put_parts, put_submit_form};
+use crate::words::Words;
+use std::alloc::{AllocError, Global};
+use vd_model::{Bytes, Name, Part, Parts, QueueStep, QueueWord, SubmitForm};
+
+fn part_of(word: &[u8]) -> Result<Part, LineError>
+    ensures { Gives result (part_field word.now) }
+{
+    let mut fields = Words::new(b':', word);
+    let part = Part {
+        writable: fields.writable()?,
+        at: fields.u64()?,
+        len: fields.u32()?,
+    };
+    fields.done(part)
+}
+
+fn parts(alloc: Global, words: &mut Words<'_>) -> Result<Parts, LineError>
+    ensures { Gives result (parts_form words.old) }
+{
+    let mut parts = Parts::new(alloc);
+    for _ in 0..64usize {
+        if let Some(word) = words.next() {
+            parts.push(part_of(word)?)?;
+        }
+    }
+    if parts.as_slice().is_empty() {
+        return Err(LineError::Bad);
+    }
+    words.done(parts)
+}
+
+#[tactic(auto, unfolding(vd_model::specs::Forms::submit_form))]
+fn submit_form(words: &mut Words<'_>) -> Result<SubmitForm, LineError>
+    ensures { Gives result (submit_form words.old) }
+{
+    let word = words.word()?;
+    if word == b"read".as_slice() {
+        let form = SubmitForm::Read {
+            sector: words.u64()?,
+            buffer: words.u64()?,
+            offset: words.u64()?,
+            len: words.u64()?,
+        };
+        words.done(form)
+    } else if word == b"write".as_slice() {
+        let form = SubmitForm::Write {
+            sector: words.u64()?,
+            buffer: words.u64()?,
+            offset: words.u64()?,
+            len: words.u64()?,
+        };
+        words.done(form)
+    } else if word == b"flush".as_slice() {
+        words.done(SubmitForm::Flush)
+    } else if word == b"id".as_slice() {
+        let form = SubmitForm::Id {
+            buffer: words.u64()?,
+            offset: words.u64()?,
+        };
+        words.done(form)
+    } else {
+        Err(LineError::Bad)
+    }
+}
+
+/// The step that the words behind the first word and the name say.
+pub fn queue_step(
+    alloc: Global,
+    word: QueueWord,
+    words: &mut Words<'_>,
+) -> Result<QueueStep, LineError>
+    ensures { Gives result (queue_form word words.old) }
+{
+    match word {
+        QueueWord::Walk => {
+            let step = QueueStep::Walk {
+                queue: words.u32()?,
+                head: words.u16()?,
+            };
+            words.done(step)
+        }
+        QueueWord::Fetch => {
+            let step = QueueStep::Fetch {
+                queue: words.u32()?,
+            };
+            words.done(step)
+        }
+        QueueWord::Execute => {
+            let step = QueueStep::Execute {
+                queue: words.u32()?,
+            };
+            words.done(step)
+        }
+        QueueWord::Finish => {
+            let step = QueueStep::Finish {
+                queue: words.u32()?,
+            };
+            words.done(step)
+        }
+        QueueWord::Ring => {
+            let step = QueueStep::Ring {
+                queue: words.u32()?,
+                size: words.u64()?,
+            };
+            words.done(step)
+        }
+        QueueWord::Unring => {
+            let step = QueueStep::Unring {
+                queue: words.u32()?,
+            };
+            words.done(step)
+        }
+        QueueWord::Add => {
+            let queue = words.u32()?;
+            let parts = parts(alloc, words)?;
+            Ok(QueueStep::Add { queue, parts })
+        }
+        QueueWord::Publish => {
+            let step = QueueStep::Publish {
+                queue: words.u32()?,
+            };
+            words.done(step)
+        }
+        QueueWord::Submit => {
+            let queue = words.u32()?;
+            let form = submit_form(words)?;
+            Ok(QueueStep::Submit { queue, form })
+        }
+        QueueWord::Poll => {
+            let step = QueueStep::Poll {
+                queue: words.u32()?,
+            };
+            words.done(step)
+        }
+    }
+}
+
+fn put_add(name: &Name, queue: u32, parts: &Parts, into: &mut Bytes) -> Result<(), AllocError>
+    ensures { OnOk result (into.new ≡ into.old ++ join_with_byte 32 (with_name name.now (queue_text (Add queue parts.now)))) }
+{
+    begin(into, QueueWord::Add.text(), name)?;
+    put_number(into, u64::from(queue))?;
+    put_parts(into, parts)
+}
+
+fn put_submit(
+    name: &Name,
+    queue: u32,
+    form: &SubmitForm,
+    into: &mut Bytes,
+) -> Result<(), AllocError>
+    ensures { OnOk result (into.new ≡ into.old ++ join_with_byte 32 (with_name name.now (queue_text (Submit queue form.now)))) }
+{
+    begin(into, QueueWord::Submit.text(), name)?;
+    put_number(into, u64::from(queue))?;
+    put_submit_form(into, form)
+}
+
+/// Appends the step's line.
+pub fn print_queue(name: &Name, step: &QueueStep, into: &mut Bytes) -> Result<(), AllocError>
+    ensures { OnOk result (into.new ≡ into.old ++ join_with_byte 32 (with_name name.now (queue_text step.now))) }
+{
+    match step {
+        QueueStep::Walk { queue, head } => {
+            begin(into, QueueWord::Walk.text(), name)?;
+            put_number(into, u64::from(*queue))?;
+            put_number(into, u64::from(*head))
+        }
+        QueueStep::Fetch { queue } => {
+            begin(into, QueueWord::Fetch.text(), name)?;
+            put_number(into, u64::from(*queue))
+        }
+        QueueStep::Execute { queue } => {
+            begin(into, QueueWord::Execute.text(), name)?;
+            put_number(into, u64::from(*queue))
+        }
+        QueueStep::Finish { queue } => {
+            begin(into, QueueWord::Finish.text(), name)?;
+            put_number(into, u64::from(*queue))
+        }
+        QueueStep::Ring { queue, size } => {
+            begin(into, QueueWord::Ring.text(), name)?;
+            put_number(into, u64::from(*queue))?;
+            put_number(into, *size)
+        }
+        QueueStep::Unring { queue } => {
+            begin(into, QueueWord::Unring.text(), name)?;
+            put_number(into, u64::from(*queue))
+        }
+        QueueStep::Add { queue, parts } => put_add(name, *queue, parts, into),
+        QueueStep::Publish { queue } => {
+            begin(into, QueueWord::Publish.text(), name)?;
+            put_number(into, u64::from(*queue))
+        }
+        QueueStep::Submit { queue, form } => put_submit(name, *queue, form, into),
+        QueueStep::Poll { queue } => {
+            begin(into, QueueWord::Poll.text(), name)?;
+            put_number(into, u64::from(*queue))
+        }
+    }
+}
