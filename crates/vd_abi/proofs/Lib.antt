@@ -1,0 +1,4 @@
+pub mod OneByte
+pub mod Text
+pub mod Layouts
+pub mod Same
