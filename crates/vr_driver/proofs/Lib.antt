@@ -1,0 +1,2 @@
+pub mod FieldReach
+pub mod FreeLemmas

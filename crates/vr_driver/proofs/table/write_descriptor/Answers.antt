@@ -1,0 +1,8 @@
+use Rattle.std.proofs.Common.{◌≡◌, ◌+◌, ◌*◌, length, ap, arith}
+use Rattle.vr_split.specs.ReachLemmas.{Reaches-part}
+use Rattle.vr_driver.proofs.table.write_descriptor.Goals as goal
+
+pub store_in_reach-requires : goal.store_in_reach-requires
+store_in_reach-requires g c =
+    let len : length c.encode.result ≡ 16 = ap length c.encode.ensures in
+    Reaches-part (g.M.Mem.told c.args.mem.now) (g.M.Mem.span c.args.mem.now) c.args.place.now.desc (16 * c.args.place.now.size) (c.args.place.now.desc + 16 * c.args.index) (length c.encode.result) (omega arith) (omega arith) c.requires.in_reach
