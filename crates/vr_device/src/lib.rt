@@ -1,0 +1,14 @@
+//! The device's side of a split ring.
+//! It stands on `vr_chain`, and the block daemon stands on it.
+//! Each call says exactly what it answers by the bytes of the ring, each fault with the first address that isn't there,
+//! and what it writes: `next` and `should_interrupt` change nothing, and `accept` and `push_used` write one field and
+//! one element with its index, or nothing at all.
+#![tactic(auto)]
+
+mod error;
+mod ring;
+#[cfg(test)]
+mod tests;
+
+pub use error::PopError;
+pub use ring::DeviceRing;
