@@ -1,10 +1,10 @@
 -- Ranges of a row of counts, their bits, and places among them.
-use Rattle.std.proofs.Common.{◌≡◌, ◌≢◌, ℕ, zero, suc, ◌+◌, ◌-◌, ◌*◌, ◌/◌, ◌%◌, ◌<◌, ◌≤◌, ◌⊎◌, inl, inr, refl, subst, ap, sym, ◌∙◌, arith, Bool, true, false, ◌==◌, ◌&&◌, ◌||◌, not, nat_lt, nat_le, if◌then◌else◌, List, [], ◌∷◌, length, replicate, length-set, get_or-set_same, get_or-set_other, Some, None, cond, true≢false, max}
+use Rattle.std.proofs.Common.{◌≡◌, ℕ, zero, suc, ◌+◌, ◌-◌, ◌*◌, ◌%◌, ◌<◌, ◌≤◌, inl, inr, refl, subst, ap, sym, ◌∙◌, arith, Bool, true, false, ◌==◌, ◌&&◌, ◌||◌, not, nat_le, List, [], ◌∷◌, length, Some, None, cond, true≢false, max}
 use Rattle.std.proofs.lemmas.Bool.Decides.{nat_tests, eqb_tells, leb_tells}
-use Rattle.std.specs.List.{slice_index, slice_set, list_any}
+use Rattle.std.specs.List.{slice_index, list_any}
 use Rattle.vd_num.specs.Number.{is_within, power_from}
-use Rattle.vd_iova.specs.Place.{Slots, greatest, meets, is_place, place_of}
-use Rattle.vd_iova.specs.Bits.{bit, IsClear, NoRun, IsTopRun, IsSummary, IsOutside, Takes}
+use Rattle.vd_model.specs.Place.{Slots, greatest, meets, is_place, place_of}
+use Rattle.vd_iova.specs.Bits.{bit, IsClear, NoRun, IsTopRun}
 use Rattle.vd_iova.specs.Space.{Space, ranges_from, taken_of, taken_at, is_covered, IsSound}
 use Rattle.vd_iova.proofs.Runs.{bit_tells, bit_small, one_not_zero}
 
@@ -194,6 +194,7 @@ module _ (words full : List ℕ) (s : Space) (sound : IsSound words full s) (n :
     run_high = at.high
 
     pub run_place : place_of (taken_of s) n s.first s.«end» ≡ Some start
+    unfolding place_of
     run_place =
         let high = at.high in
         greatest_is (is_place (taken_of s) n s.first s.«end») start s.«end» (omega arith) (clear_place start top.multiple top.inside top.clear)
@@ -209,7 +210,9 @@ module _ (words full : List ℕ) (s : Space) (sound : IsSound words full s) (n :
     ]
 
   pub none_place : NoRun words (power_from n) n 0 (s.«end» + 1 - n) → place_of (taken_of s) n s.first s.«end» ≡ None
+  unfolding place_of
   none_place never = greatest_none (is_place (taken_of s) n s.first s.«end») s.«end» (λ k below. no_place k (λ p. let fits = p.high in never k (omega arith) (omega arith) p.multiple p.clear))
 
   pub many_place : s.«end» - s.first < n → place_of (taken_of s) n s.first s.«end» ≡ None
+  unfolding place_of
   many_place many = greatest_none (is_place (taken_of s) n s.first s.«end») s.«end» (λ k below. no_place k (λ p. let fits = p.high in let low = p.low in omega arith))

@@ -1,11 +1,11 @@
 -- Runs of clear bits, word by word.
-use Rattle.std.proofs.Common.{◌≡◌, ◌≢◌, ℕ, ◌+◌, ◌-◌, ◌*◌, ◌/◌, ◌%◌, ◌^◌, ◌<◌, ◌≤◌, ◌⊎◌, inl, inr, refl, subst, ap, sym, ◌∙◌, arith, Bool, true, false, List, length, if◌then◌else◌}
-use Rattle.std.proofs.lemmas.Bool.Decides.{nat_tests, eqb_tells, leb_tells}
+use Rattle.std.proofs.Common.{◌≡◌, ℕ, ◌+◌, ◌-◌, ◌*◌, ◌/◌, ◌%◌, ◌^◌, ◌<◌, ◌≤◌, ◌⊎◌, inl, inr, subst, ap, sym, ◌∙◌, arith, true, List, length, if◌then◌else◌}
+use Rattle.std.proofs.lemmas.Bool.Decides.{nat_tests, leb_tells}
 use Rattle.std.specs.Int.{bit_at}
 use Rattle.std.specs.List.{slice_index, slice_set}
 use Rattle.std.proofs.lemmas.Nat.Bits.{same_from_bits_below, bit_at_ones, bit_at-zero, bit_at-lt}
 use Rattle.vd_num.specs.Number.{is_within}
-use Rattle.vd_iova.specs.Bits.{bit, IsClear, IsClearWord, NoRun, IsTopInWord, IsTopRun, IsFullWord, IsSummary, IsOutside}
+use Rattle.vd_iova.specs.Bits.{bit, IsClear, IsClearWord, NoRun, IsTopInWord, IsTopRun, IsFullWord}
 use Rattle.vd_iova.proofs.Multiples.{room_in, same_rest}
 use Rattle.vd_iova.proofs.Pieces.{written}
 

@@ -1,5 +1,5 @@
 -- What is known after each step of a search.
-use Rattle.std.proofs.Common.{◌≡◌, ◌≢◌, ℕ, ◌+◌, ◌-◌, ◌*◌, ◌/◌, ◌%◌, ◌^◌, ◌<◌, ◌≤◌, ◌⊎◌, inl, inr, refl, subst, ap, sym, ◌∙◌, arith, List, length, max, min, Option, Some, None}
+use Rattle.std.proofs.Common.{◌≡◌, ℕ, ◌+◌, ◌-◌, ◌*◌, ◌/◌, ◌%◌, ◌<◌, ◌≤◌, ◌⊎◌, inl, inr, subst, ap, sym, ◌∙◌, arith, List, length, Option, Some, None}
 use Rattle.std.proofs.lemmas.Bool.Decides.{eqb_tells, leb_tells}
 use Rattle.std.specs.Int.{bit_at}
 use Rattle.std.specs.Option.{MatchOption}
@@ -7,7 +7,7 @@ use Rattle.vd_num.specs.Number.{power_from}
 use Rattle.std.specs.List.{slice_index}
 use Rattle.vd_iova.specs.Bits.{bit, IsClear, IsClearWord, NoRun, IsFullWord, IsSummary, IsOutside, SumsUp, IsTopRun}
 use Rattle.vd_iova.proofs.Multiples.{between}
-use Rattle.vd_iova.proofs.Runs.{bit_in, bit_small, bit_tells, bit_of, no_run_join, no_run_set, no_run_word, one_not_zero}
+use Rattle.vd_iova.proofs.Runs.{bit_in, bit_small, bit_tells, bit_of, no_run_join, no_run_set, one_not_zero}
 
 -- a word in which no single bit is clear is full
 pub full_by_none : (words : List ℕ) (w step : ℕ) → step ≡ 1 → ((k : ℕ) → k < 64 → k % step ≡ 0 → IsClearWord (slice_index words w) k 1 → ⊥) → IsFullWord words w

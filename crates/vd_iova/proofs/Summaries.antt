@@ -1,13 +1,13 @@
 -- A summary after bits of its words changed.
-use Rattle.std.proofs.Common.{◌≡◌, ◌≢◌, ℕ, ◌+◌, ◌-◌, ◌*◌, ◌/◌, ◌%◌, ◌^◌, ◌<◌, ◌≤◌, ◌⊎◌, inl, inr, refl, subst, ap, sym, ◌∙◌, arith, Bool, true, false, ◌==◌, List, length, length-set, get_or-set_same, get_or-set_other, if◌then◌else◌, max}
+use Rattle.std.proofs.Common.{◌≡◌, ◌≢◌, ℕ, ◌+◌, ◌-◌, ◌*◌, ◌/◌, ◌%◌, ◌^◌, ◌<◌, ◌≤◌, ◌⊎◌, inl, inr, refl, subst, ap, sym, ◌∙◌, arith, true, false, ◌==◌, List, length, length-set, get_or-set_same, get_or-set_other, if◌then◌else◌, max}
 use Rattle.std.proofs.lemmas.Bool.Decides.{nat_tests, eqb_tells, leb_tells}
 use Rattle.std.specs.Int.{bit_at}
 use Rattle.std.specs.List.{slice_index, slice_set}
-use Rattle.std.proofs.lemmas.Nat.Bits.{bit_at_ones, bit_at-zero}
+use Rattle.std.proofs.lemmas.Nat.Bits.{bit_at_ones}
 use Rattle.vd_num.specs.Number.{is_within}
-use Rattle.vd_iova.specs.Bits.{bit, IsClear, IsFullWord, IsSummary, IsOutside, Takes}
+use Rattle.vd_iova.specs.Bits.{bit, IsClear, IsFullWord, IsSummary, Takes}
 use Rattle.vd_iova.proofs.Pieces.{written, one_more}
-use Rattle.vd_iova.proofs.Runs.{bit_in, bit_of, bit_small, bit_tells, all_ones, one_not_zero}
+use Rattle.vd_iova.proofs.Runs.{bit_of, bit_small, bit_tells, all_ones, one_not_zero}
 
 -- bit w of the summary is set exactly where word w is full
 pub record SumsAt (words full : List ℕ) (w : ℕ) : Type 0 where

@@ -2,7 +2,7 @@
 use Rattle.std.specs.Prelude.{ℕ, zero, suc, ◌+◌, ◌*◌, ◌<◌, ◌≤◌, ◌≡◌, List, [], ◌∷◌, length, Bool, true, slice_index}
 use Rattle.std.specs.List.{list_any}
 use Rattle.vd_num.specs.Number.{is_within}
-use Rattle.vd_iova.specs.Place.{Slots}
+use Rattle.vd_model.specs.Place.{Slots}
 use Rattle.vd_iova.specs.Bits.{bit, IsSummary, IsOutside}
 
 -- how many slots were taken at each start and not given back, and the slots first to end - 1

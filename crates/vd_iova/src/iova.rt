@@ -2,7 +2,7 @@
 
 ghost use Rattle.std.specs.Prelude.{◌≡◌, ◌+◌, ◌-◌, ◌*◌, ◌/◌, ◌%◌, ◌<◌, ◌≤◌, ◌^◌, ℕ, Some, None, IfOk, OnErr, OnOk, MatchOption, MatchResult, length, slice_index, slice_set, replicate, ◌==◌, if◌then◌else◌};
 ghost use Rattle.vd_num.specs.Number.{power_from, is_within};
-ghost use Rattle.vd_iova.specs.Place.{place_of};
+ghost use Rattle.vd_model.specs.Place.{place_of};
 ghost use Rattle.vd_iova.specs.Space.{Space, taken_of, taken_at};
 ghost use Rattle.vd_iova.specs.Bits.{bit, IsSummary, IsOutside, NoRun, IsTopRun, Takes};
 

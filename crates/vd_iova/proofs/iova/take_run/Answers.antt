@@ -1,4 +1,4 @@
-use Rattle.std.proofs.Common.{◌≡◌, ◌<◌, ◌≤◌, arith}
+use Rattle.std.proofs.Common.{◌≡◌, arith}
 use Rattle.vd_iova.specs.Bits.{Takes}
 use Rattle.vd_iova.proofs.Powers.{small_step, large_step}
 use Rattle.vd_iova.proofs.Searches.{small_run}

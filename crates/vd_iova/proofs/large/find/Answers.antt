@@ -1,5 +1,5 @@
-use Rattle.std.proofs.Common.{◌≡◌, ℕ, ◌+◌, ◌-◌, ◌*◌, ◌/◌, ◌%◌, ◌<◌, ◌≤◌, refl, subst, sym, ◌∙◌, ap, arith, length, true≢false}
-use Rattle.vd_iova.specs.Bits.{NoRun, IsClear}
+use Rattle.std.proofs.Common.{◌+◌, ◌-◌, ◌<◌, ◌≤◌, subst, sym, ◌∙◌, arith, true≢false}
+use Rattle.vd_iova.specs.Bits.{IsClear}
 use Rattle.vd_iova.proofs.Multiples.{first_step, beyond, under, prev, is_multiple}
 use Rattle.vd_iova.proofs.Powers.{word_start}
 use Rattle.vd_iova.proofs.Searches.{candidate_down, candidates_above, candidates_end}

@@ -1,4 +1,4 @@
-use Rattle.std.proofs.Common.{◌≡◌, ◌*◌, ◌/◌, sym, subst}
+use Rattle.std.proofs.Common.{◌/◌, sym, subst}
 use Rattle.vd_iova.specs.Bits.{IsClear, Takes}
 use Rattle.vd_iova.proofs.Powers.{word_start, quotient}
 use Rattle.vd_iova.proofs.large.take.Goals as goal

@@ -1,6 +1,5 @@
-use Rattle.std.proofs.Common.{◌≡◌, ℕ, ◌+◌, ◌*◌, ◌/◌, ◌%◌, ap, sym, ◌∙◌, arith, if◌then◌else◌}
+use Rattle.std.proofs.Common.{◌+◌, ◌*◌, ◌/◌, ◌%◌, ap, ◌∙◌, if◌then◌else◌}
 use Rattle.vd_num.specs.Number.{is_within}
-use Rattle.vd_iova.specs.Bits.{bit}
 use Rattle.vd_iova.proofs.Summaries.{takes_whole}
 use Rattle.vd_iova.proofs.large.take_found.Goals as goal
 

@@ -1,6 +1,5 @@
-use Rattle.std.proofs.Common.{◌≡◌, ℕ, ◌+◌, ◌*◌, ◌<◌, ap, sym, ◌∙◌, arith, length, if◌then◌else◌, subst}
+use Rattle.std.proofs.Common.{◌≡◌, ◌+◌, ◌*◌, ◌<◌, ap, sym, ◌∙◌, arith, length, if◌then◌else◌, subst}
 use Rattle.std.specs.Int.{bit_at}
-use Rattle.std.specs.List.{slice_set}
 use Rattle.vd_num.specs.Number.{is_within}
 use Rattle.vd_iova.specs.Bits.{bit, IsFullWord}
 use Rattle.vd_iova.proofs.Summaries.{put_bits, full_word, open_word}

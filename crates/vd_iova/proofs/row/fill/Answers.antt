@@ -1,5 +1,4 @@
-use Rattle.std.proofs.Common.{◌≡◌, ℕ, ◌+◌, ◌-◌, ◌*◌, ◌<◌, ◌≤◌, length, length-set, arith, ap, sym, ◌∙◌, if◌then◌else◌}
-use Rattle.std.specs.List.{slice_set}
+use Rattle.std.proofs.Common.{◌≡◌, ◌+◌, ◌-◌, ◌*◌, ◌<◌, length, length-set, arith, ap, sym, ◌∙◌, if◌then◌else◌}
 use Rattle.vd_num.specs.Number.{is_within}
 use Rattle.vd_iova.specs.Bits.{bit}
 use Rattle.vd_iova.proofs.Runs.{filled_one}

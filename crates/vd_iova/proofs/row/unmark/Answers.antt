@@ -1,5 +1,4 @@
-use Rattle.std.proofs.Common.{◌+◌, ◌-◌, ◌/◌, ◌%◌, ◌<◌, ◌≤◌, ◌≡◌, length, length-set, arith, ap, sym, subst, ◌∙◌, if◌then◌else◌}
-use Rattle.std.specs.List.{slice_index, slice_set}
+use Rattle.std.proofs.Common.{◌+◌, ◌/◌, ◌%◌, ◌<◌, ◌≤◌, length, length-set, arith, ap, ◌∙◌, if◌then◌else◌}
 use Rattle.std.specs.Int.{bit_at}
 use Rattle.vd_num.specs.Number.{is_within}
 use Rattle.vd_iova.specs.Bits.{bit}

@@ -1,4 +1,4 @@
-use Rattle.std.proofs.Common.{◌≡◌, ℕ, ◌+◌, ◌-◌, ◌≤◌, length, if◌then◌else◌}
+use Rattle.std.proofs.Common.{◌≡◌, ℕ, ◌-◌, ◌≤◌, length, if◌then◌else◌}
 use Rattle.vd_num.specs.Number.{is_within}
 use Rattle.vd_iova.specs.Bits.{bit}
 use Rattle.vd_iova.proofs.row.unmark.Given as goal

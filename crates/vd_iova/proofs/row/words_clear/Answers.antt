@@ -1,6 +1,5 @@
-use Rattle.std.proofs.Common.{◌≡◌, ℕ, ◌+◌, ◌-◌, ◌*◌, ◌/◌, ◌^◌, ◌<◌, ◌≤◌, ◌⊎◌, inl, inr, arith, subst, sym, ◌∙◌, true≢false}
+use Rattle.std.proofs.Common.{◌+◌, ◌*◌, ◌^◌, ◌<◌, inl, inr, arith, subst, sym, ◌∙◌, true≢false}
 use Rattle.std.proofs.lemmas.Bool.Decides.{leb_tells}
-use Rattle.std.specs.List.{slice_index}
 use Rattle.vd_iova.proofs.Runs.{word_clear, clear_word}
 use Rattle.vd_iova.proofs.row.words_clear.Goals as goal
 

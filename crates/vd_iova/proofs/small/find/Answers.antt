@@ -1,7 +1,6 @@
-use Rattle.std.proofs.Common.{◌≡◌, ℕ, ◌+◌, ◌-◌, ◌*◌, ◌/◌, ◌%◌, ◌<◌, ◌≤◌, ◌⊎◌, inl, inr, refl, subst, sym, ◌∙◌, ap, arith, min, max, length}
+use Rattle.std.proofs.Common.{◌≡◌, ◌+◌, ◌-◌, ◌*◌, ◌/◌, inl, inr, sym, ◌∙◌, ap, arith, length}
 use Rattle.std.proofs.lemmas.Bool.Decides.{leb_tells}
 use Rattle.std.specs.List.{slice_index}
-use Rattle.vd_iova.specs.Bits.{NoRun}
 use Rattle.vd_iova.proofs.Runs.{no_run_join}
 use Rattle.vd_iova.proofs.Searches.{group_sums, past_group, group_down, no_run_below, looks_all, looks_one}
 use Rattle.vd_iova.proofs.small.find.Goals as goal

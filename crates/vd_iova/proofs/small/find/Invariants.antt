@@ -1,4 +1,4 @@
-use Rattle.std.proofs.Common.{◌≡◌, ℕ, ◌+◌, ◌-◌, ◌*◌, ◌≤◌, ◌/◌, length, max, min}
+use Rattle.std.proofs.Common.{◌≡◌, ◌+◌, ◌-◌, ◌*◌, ◌≤◌, ◌/◌, length, max, min}
 use Rattle.vd_iova.specs.Bits.{NoRun}
 use Rattle.vd_iova.proofs.small.find.Given as goal
 

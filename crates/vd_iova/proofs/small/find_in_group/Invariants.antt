@@ -1,4 +1,4 @@
-use Rattle.std.proofs.Common.{◌≡◌, ℕ, ◌+◌, ◌-◌, ◌*◌, ◌≤◌, min}
+use Rattle.std.proofs.Common.{◌≡◌, ◌+◌, ◌-◌, ◌*◌, ◌≤◌, min}
 use Rattle.vd_iova.specs.Bits.{NoRun}
 use Rattle.vd_iova.proofs.small.find_in_group.Given as goal
 

@@ -1,5 +1,4 @@
-use Rattle.std.proofs.Common.{◌+◌, ◌-◌, ◌*◌, ◌<◌, ◌≤◌, length, arith, subst, sym}
-use Rattle.std.specs.List.{slice_index}
+use Rattle.std.proofs.Common.{◌*◌, length, arith, subst}
 use Rattle.vd_iova.specs.Bits.{IsTopInWord}
 use Rattle.vd_iova.proofs.Runs.{top_of_word}
 use Rattle.vd_iova.proofs.small.take.Goals as goal

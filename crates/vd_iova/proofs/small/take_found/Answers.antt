@@ -1,6 +1,6 @@
-use Rattle.std.proofs.Common.{◌≡◌, ℕ, ◌+◌, ◌*◌, ◌/◌, ◌%◌, ap, sym, subst, refl, ◌∙◌, arith, if◌then◌else◌}
+use Rattle.std.proofs.Common.{◌+◌, ◌*◌, ◌/◌, ◌%◌, ap, sym, subst, refl, ◌∙◌, if◌then◌else◌}
 use Rattle.std.specs.Int.{bit_at}
-use Rattle.std.specs.List.{slice_set, slice_index}
+use Rattle.std.specs.List.{slice_set}
 use Rattle.vd_num.specs.Number.{is_within}
 use Rattle.vd_iova.specs.Bits.{Takes}
 use Rattle.vd_iova.proofs.Runs.{bit_in}

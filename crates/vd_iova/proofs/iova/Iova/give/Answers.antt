@@ -1,4 +1,4 @@
-use Rattle.std.proofs.Common.{◌≡◌, ◌==◌, ◌<◌, arith, length, sym, subst, if◌then◌else◌, ℕ}
+use Rattle.std.proofs.Common.{◌≡◌, ◌==◌, ◌<◌, arith, length, subst, if◌then◌else◌}
 use Rattle.std.proofs.lemmas.Grind.{common_steps}
 use Rattle.std.specs.List.{slice_index, slice_set}
 use Rattle.vd_iova.specs.Space.{Space, taken_at}

@@ -1,6 +1,6 @@
-use Rattle.std.proofs.Common.{◌≡◌, ◌+◌, ◌-◌, ◌<◌, ◌≤◌, Some, None, arith, length, sym, subst, ◌==◌, if◌then◌else◌}
+use Rattle.std.proofs.Common.{◌≡◌, ◌+◌, ◌<◌, ◌≤◌, Some, None, arith, length, sym, subst, ◌==◌, if◌then◌else◌}
 use Rattle.std.specs.List.{slice_index, slice_set}
-use Rattle.vd_iova.specs.Place.{place_of}
+use Rattle.vd_model.specs.Place.{place_of}
 use Rattle.vd_iova.specs.Space.{Space, taken_of, taken_at}
 use Rattle.vd_iova.proofs.Places.{run_low, run_high, run_place, run_fresh, none_place, many_place}
 use Rattle.vd_iova.proofs.Ranges.{took_sound, count_at}
