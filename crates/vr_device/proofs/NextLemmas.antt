@@ -1,25 +1,14 @@
 -- What is next at a position, once a walk has answered.
-<<<<<<< HEAD
-use Rattle.std.proofs.Common.{◌≡◌, ℕ, ◌==◌, Bool, false, nat_lt, Some, Ok, Err, refl}
-use Rattle.vd_model.specs.Memory.{Memory}
-use Rattle.vd_model.specs.Rings.{minus16, number16, available_index_at, available_slot_at}
-use Rattle.vd_model.specs.Trace.{whole, faulty, missing, Ends, start_of}
-=======
 use Rattle.std.proofs.Common.{◌≡◌, ℕ, ◌==◌, Bool, false, nat_lt, Some, Ok, Err, ap}
 use Rattle.vd_model.specs.Memory.{Memory}
 use Rattle.vd_model.specs.Rings.{minus16, number16, available_index_at, available_slot_at}
 use Rattle.vd_model.specs.Trace.{whole, start_of, ending_of}
->>>>>>> h-rings
 use Rattle.vd_model.specs.declared.parts.Chain.{Chain}
 use Rattle.vr_chain.specs.Walk.{UnlessMemory}
 use Rattle.vr_chain.specs.declared.error.WalkError.{WalkError}
 use Rattle.vr_chain.specs.declared.error.WalkError.TheVariants.{Fault, Bus, Memory as OutOfMemory}
 use Rattle.vr_device.specs.Side.{Side}
-<<<<<<< HEAD
-use Rattle.vr_device.specs.Device.{IsNext}
-=======
 use Rattle.vr_device.specs.Device.{IsUnlessMemory, next_of, popped}
->>>>>>> h-rings
 use Rattle.vr_device.specs.declared.error.PopError.TheVariants.{Walk}
 
 -- a head is available at the position
@@ -31,16 +20,6 @@ pub record IsAvailable (m : Memory) (side : Side) (head : ℕ) : Type 0 where
   pub slot : number16 m (available_slot_at side.place side.position) ≡ Ok head
 
 -- a walk that gives no chain
-<<<<<<< HEAD
-pub next-fails : (m : Memory) (side : Side) (head : ℕ) (indirect : Bool) (e : WalkError) → IsAvailable m side head → UnlessMemory (Err e) (Ends (start_of side.place head indirect) m) → IsNext m side indirect (Err (Walk e))
-next-fails m side head indirect OutOfMemory a h = tt
-next-fails m side head indirect (Fault fault) a h = rw (a.index, a.some, a.near, a.slot) (faulty fault, h, refl)
-next-fails m side head indirect (Bus address) a h = rw (a.index, a.some, a.near, a.slot) (missing address, h, refl)
-
--- a walk that gives one
-pub next-gives : (m : Memory) (side : Side) (head : ℕ) (indirect : Bool) (chain : Chain) → IsAvailable m side head → Ends (start_of side.place head indirect) m (whole chain) → IsNext m side indirect (Ok (Some chain))
-next-gives m side head indirect chain a h = rw (a.index, a.some, a.near, a.slot) (whole chain, h, refl)
-=======
 pub next-fails : (m : Memory) (side : Side) (head : ℕ) (indirect : Bool) (e : WalkError) → IsAvailable m side head → UnlessMemory (Err e) (λ end. end ≡ ending_of (start_of side.place head indirect) m) → IsUnlessMemory (Err (Walk e)) (next_of m side indirect)
 next-fails m side head indirect OutOfMemory a h = tt
 next-fails m side head indirect (Fault fault) a h = rw (a.index, a.some, a.near, a.slot) (ap popped h)
@@ -49,4 +28,3 @@ next-fails m side head indirect (Bus address) a h = rw (a.index, a.some, a.near,
 -- a walk that gives one
 pub next-gives : (m : Memory) (side : Side) (head : ℕ) (indirect : Bool) (chain : Chain) → IsAvailable m side head → whole chain ≡ ending_of (start_of side.place head indirect) m → IsUnlessMemory (Ok (Some chain)) (next_of m side indirect)
 next-gives m side head indirect chain a h = rw (a.index, a.some, a.near, a.slot) (ap popped h)
->>>>>>> h-rings

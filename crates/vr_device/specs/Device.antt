@@ -1,18 +1,10 @@
 -- The device's side of a ring (virtio 1.2, 2.7): what its calls answer by the memory, and what they write.
-<<<<<<< HEAD
-use Rattle.std.specs.Prelude.{ℕ, Bool, true, false, ◌≡◌, ◌==◌, nat_lt, bit_and, MatchBool, List, ◌++◌, Option, Some, None, Result, Ok, Err, IsOk}
-=======
 use Rattle.std.specs.Prelude.{ℕ, Bool, true, false, ◌≡◌, ◌==◌, nat_lt, bit_and, if◌then◌else◌, List, ◌++◌, Option, Some, None, Result, Ok, Err, IsOk}
->>>>>>> h-rings
 use Rattle.byteorder.specs.Endian.{little_bytes}
 use Rattle.vd_num.specs.declared.number.Bus.{Bus as Unmapped}
 use Rattle.vd_model.specs.Memory.{Memory, read, written}
 use Rattle.vd_model.specs.Rings.{minus16, next16, needs_event, number16, available_flags_at, available_index_at, available_slot_at, used_event_at, used_index_at, used_element_at}
-<<<<<<< HEAD
-use Rattle.vd_model.specs.Trace.{Ending, whole, faulty, missing, Ends, start_of}
-=======
 use Rattle.vd_model.specs.Trace.{Ending, whole, faulty, missing, start_of, ending_of}
->>>>>>> h-rings
 use Rattle.vd_model.specs.declared.queue.RingPlace.{RingPlace}
 use Rattle.vd_model.specs.declared.parts.Chain.{Chain}
 use Rattle.vr_chain.specs.declared.error.WalkError.TheVariants.{Fault, Bus, Memory as OutOfMemory}
@@ -38,29 +30,6 @@ popped (whole chain) = Ok (Some chain)
 popped (faulty fault) = Err (Walk (Fault fault))
 popped (missing address) = Err (Walk (Bus address))
 
-<<<<<<< HEAD
--- the answer tells how the trace of the head ends
-abbrev pub Pops : Memory → RingPlace → Bool → Result ℕ ℕ → Result (Option Chain) PopError → Type 0
-Pops m place indirect (Err address) r = r ≡ Err (Walk (Bus address))
-Pops m place indirect (Ok head) r = (end : Ending) × Ends (start_of place head indirect) m end × (r ≡ popped end)
-
--- Nothing is next where the available index is the position, and it is ahead where it is more than the size further on.
--- Else the chain is that of the head in the position's slot.
-abbrev pub NextBy : Memory → Side → Bool → Result ℕ ℕ → Result (Option Chain) PopError → Type 0
-NextBy m side indirect (Err address) r = r ≡ Err (Walk (Bus address))
-NextBy m side indirect (Ok found) r =
-    MatchBool (found == side.position) (r ≡ Ok None)
-    (MatchBool (nat_lt side.place.size (minus16 found side.position)) (r ≡ Err (Ahead found side.position))
-    (Pops m side.place indirect (number16 m (available_slot_at side.place side.position)) r))
-
--- the answer is what is next by the available index that stands in the ring, or want of memory
-abbrev pub IsNext : Memory → Side → Bool → Result (Option Chain) PopError → Type 0
-IsNext m side indirect (Err (Walk OutOfMemory)) = Unit {0}
-IsNext m side indirect (Err (Walk (Fault fault))) = NextBy m side indirect (number16 m (available_index_at side.place)) (Err (Walk (Fault fault)))
-IsNext m side indirect (Err (Walk (Bus address))) = NextBy m side indirect (number16 m (available_index_at side.place)) (Err (Walk (Bus address)))
-IsNext m side indirect (Err (Ahead found known)) = NextBy m side indirect (number16 m (available_index_at side.place)) (Err (Ahead found known))
-IsNext m side indirect (Ok chain) = NextBy m side indirect (number16 m (available_index_at side.place)) (Ok chain)
-=======
 -- the answer for a head that stands in a slot, or for a slot that isn't there
 abbrev pub pop_of : Memory → RingPlace → Bool → Result ℕ ℕ → Result (Option Chain) PopError
 pop_of m place indirect (Ok head) = popped (ending_of (start_of place head indirect) m)
@@ -86,7 +55,6 @@ IsUnlessMemory (Err (Walk (Fault fault))) answer = Err (Walk (Fault fault)) ≡ 
 IsUnlessMemory (Err (Walk (Bus address))) answer = Err (Walk (Bus address)) ≡ answer
 IsUnlessMemory (Err (Ahead found known)) answer = Err (Ahead found known) ≡ answer
 IsUnlessMemory (Ok chain) answer = Ok chain ≡ answer
->>>>>>> h-rings
 
 -- GIVING A CHAIN BACK
 

@@ -4,11 +4,7 @@ ghost use Rattle.std.specs.Option.{ForSome};
 ghost use Rattle.byteorder.specs.Endian.{little_bytes};
 ghost use Rattle.vd_model.specs.Rings.{available_event_at, next16};
 ghost use Rattle.vr_split.specs.Mem.{Stores};
-<<<<<<< HEAD
-ghost use Rattle.vr_device.specs.Device.{resumed, IsNext, Checks, Pushes, interrupt, element_bytes};
-=======
 ghost use Rattle.vr_device.specs.Device.{resumed, next_of, IsUnlessMemory, Checks, Pushes, interrupt, element_bytes};
->>>>>>> h-rings
 
 use crate::error::PopError;
 use std::alloc::Global;
@@ -82,11 +78,7 @@ impl DeviceRing {
         mem: &mut M,
         indirect: bool,
     ) -> Result<Option<Chain>, PopError>
-<<<<<<< HEAD
-        ensures next { ForSome (M.told mem.old) (λ m. IsNext m self.now indirect result) }
-=======
         ensures next { ForSome (M.told mem.old) (λ m. IsUnlessMemory result (next_of m self.now indirect)) }
->>>>>>> h-rings
 
         ensures told { M.told mem.new ≡ M.told mem.old }
         ensures span { M.span mem.new ≡ M.span mem.old }

@@ -4,11 +4,7 @@ use Rattle.std.proofs.lemmas.Result.{err_from_is_err_and}
 use Rattle.vd_model.specs.Rings.{minus16, number16}
 use Rattle.vd_model.specs.declared.parts.Chain.{Chain}
 use Rattle.vr_device.specs.Side.{Side}
-<<<<<<< HEAD
-use Rattle.vr_device.specs.Device.{IsNext}
-=======
 use Rattle.vr_device.specs.Device.{IsUnlessMemory, next_of}
->>>>>>> h-rings
 use Rattle.vr_device.specs.declared.error.PopError.{PopError}
 use Rattle.vr_device.proofs.NextLemmas.{next-fails, next-gives}
 use Rattle.vr_device.proofs.ring.DeviceRing.next.Goals as goal
@@ -22,24 +18,15 @@ returns-in_err-chain-clause-next g c m told =
     let third = c.in_ok-head.ensures.told ∙ second in
     let some : (c.in_ok-found.found == i.position) ≡ false = grind (arith, nat_tests) in
     let near : nat_lt i.place.size (minus16 c.in_ok-found.found i.position) ≡ false = grind (arith, nat_tests) in
-<<<<<<< HEAD
-    subst (λ (s : Side). IsNext m s c.args.indirect c.from_residual-in_err-chain.result) c.self.view_is
-    (subst (λ (r : Result (Option Chain) PopError). IsNext m side c.args.indirect r) (sym (p.1 ∙ ap Err p.2))
-=======
     subst (λ (s : Side). IsUnlessMemory c.from_residual-in_err-chain.result (next_of m s c.args.indirect)) c.self.view_is
     (subst (λ (r : Result (Option Chain) PopError). IsUnlessMemory r (next_of m side c.args.indirect)) (sym (p.1 ∙ ap Err p.2))
->>>>>>> h-rings
     (next-fails m side c.in_ok-head.head c.args.indirect c.in_err-chain.field-0.0 (record {
       found = c.in_ok-found.found;
       index = ap (number16 m) (sym c.available_index.ensures) ∙ c.in_ok-found.ensures.loads m told;
       some = some;
       near = near;
       slot = ap (number16 m) (sym c.available_slot.ensures) ∙ c.in_ok-head.ensures.loads m second;
-<<<<<<< HEAD
-    }) (c.in_err-chain.ensures.found m third)))
-=======
     }) (c.in_err-chain.ensures.computed m third)))
->>>>>>> h-rings
 
 pub returns-clause-next : goal.returns-clause-next
 returns-clause-next g c m told =
@@ -49,19 +36,11 @@ returns-clause-next g c m told =
     let third = c.in_ok-head.ensures.told ∙ second in
     let some : (c.in_ok-found.found == i.position) ≡ false = grind (arith, nat_tests) in
     let near : nat_lt i.place.size (minus16 c.in_ok-found.found i.position) ≡ false = grind (arith, nat_tests) in
-<<<<<<< HEAD
-    subst (λ (s : Side). IsNext m s c.args.indirect (Ok (Some c.in_ok-chain.chain))) c.self.view_is
-=======
     subst (λ (s : Side). IsUnlessMemory (Ok (Some c.in_ok-chain.chain)) (next_of m s c.args.indirect)) c.self.view_is
->>>>>>> h-rings
     (next-gives m side c.in_ok-head.head c.args.indirect c.in_ok-chain.chain (record {
       found = c.in_ok-found.found;
       index = ap (number16 m) (sym c.available_index.ensures) ∙ c.in_ok-found.ensures.loads m told;
       some = some;
       near = near;
       slot = ap (number16 m) (sym c.available_slot.ensures) ∙ c.in_ok-head.ensures.loads m second;
-<<<<<<< HEAD
-    }) (c.in_ok-chain.ensures.found m third))
-=======
     }) (c.in_ok-chain.ensures.computed m third))
->>>>>>> h-rings
