@@ -1,0 +1,4 @@
+pub mod Kept
+pub mod Pages
+pub mod There
+pub mod Wrote

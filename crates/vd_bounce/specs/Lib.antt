@@ -1,0 +1,2 @@
+pub mod Bounce
+pub mod Frames
