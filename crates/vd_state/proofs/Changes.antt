@@ -1,12 +1,12 @@
 -- What the state is after each act.
-use Rattle.std.proofs.Common.{◌≡◌, ℕ, zero, suc, ◌+◌, ◌<◌, ◌≤◌, Bool, true, false, ◌&&◌, ◌||◌, not, Option, Some, None, refl, ap, subst, ◌∙◌, sym, arith, cond, List, [], ◌∷◌, ◌++◌, length, nat_lt, ◌==◌, set, map, eqb-true, eq-eqb, length-set, take, get_or, add-one, replicate}
+use Rattle.std.proofs.Common.{◌≡◌, ℕ, zero, suc, ◌+◌, ◌<◌, ◌≤◌, Bool, true, false, ◌&&◌, ◌||◌, not, Some, None, refl, ap, subst, ◌∙◌, sym, arith, cond, List, [], ◌∷◌, length, nat_lt, ◌==◌, set, map, eqb-true, eq-eqb, length-set, take, get_or, add-one, replicate}
 use Rattle.std.specs.List.{slice_get, list_all}
 use Rattle.std.specs.Option.{option_map}
 use Rattle.std.proofs.lemmas.Bool.Decides.{nat_tests}
 use Rattle.vd_model.specs.declared.step.QueueOrConfig.TheVariants as interrupt
-use Rattle.vd_model.specs.State.{StateAct, Max_set, Status_set, Features_set, Num_set, Addr_set, Ready_set, Avail_set, Kick_file_set, Kicked, Kicks_taken, Callback_set, Injected, Interrupts_taken, Cleared, Made, Addresses, is_queue, status_of, features_of, max_of, num_of, addresses_of, avail_of, is_ready, has_kick_file, kicks_of, kick_file_of, is_remembered, has_callback, counts, interrupts_of, are_set_up}
+use Rattle.vd_model.specs.State.{StateAct, Max_set, Num_set, Addr_set, Ready_set, Avail_set, Kick_file_set, Kicked, Kicks_taken, Callback_set, Injected, Interrupts_taken, Cleared, Made, Addresses, is_queue, status_of, features_of, max_of, num_of, addresses_of, avail_of, is_ready, has_kick_file, kicks_of, is_remembered, has_callback, counts, interrupts_of, are_set_up}
 use Rattle.vd_state.specs.declared.queue.Queue.{Queue}
-use Rattle.vd_state.specs.Kept.{Kept, fresh, cleared, counted, kicked, with_kick_file, injected}
+use Rattle.vd_state.specs.Kept.{Kept, fresh, cleared, kicked, with_kick_file, injected}
 use Rattle.vd_state.specs.Stands.{Stands, queue_of}
 use Rattle.std.proofs.lemmas.Option.{get_or_from_slice_get}
 use Rattle.std.proofs.lemmas.List.Folds.{list_all_more}

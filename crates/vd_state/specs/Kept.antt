@@ -1,5 +1,5 @@
 -- What contracts see of a device's state.
-use Rattle.std.specs.Prelude.{ℕ, ◌+◌, ◌<◌, ◌≤◌, ◌≡◌, ◌^◌, List, Bool, true, false, ◌&&◌, not, if◌then◌else◌, All, Option, Some, None, unwrap_or, slice_get}
+use Rattle.std.specs.Prelude.{ℕ, ◌+◌, ◌<◌, ◌≤◌, ◌≡◌, ◌^◌, List, Bool, true, false, ◌&&◌, if◌then◌else◌, All, Option, Some, None, unwrap_or, slice_get}
 use Rattle.vd_model.specs.declared.queue.QueueInfo.{QueueInfo}
 use Rattle.vd_state.specs.declared.queue.Queue.{Queue}
 

@@ -1,9 +1,6 @@
-use Rattle.std.proofs.Common.{◌≡◌, ◌∙◌, ◌≤◌, ◌+◌, ◌&&◌, arith, ap, sym, subst, set, true}
-use Rattle.vd_model.specs.State.{may_have}
-use Rattle.vd_state.specs.declared.queue.Queue.{Queue}
+use Rattle.std.proofs.Common.{arith}
 use Rattle.vd_state.specs.Inside.{kept_of}
-use Rattle.vd_state.specs.Kept.{kicked, with_kick_file, injected}
-use Rattle.vd_state.proofs.Changes.{avail_stands, found_queue, is_found, stands_with, stands_inside}
+use Rattle.vd_state.proofs.Changes.{avail_stands, is_found, stands_with, stands_inside}
 use Rattle.vd_state.proofs.Counts.{counts_inside, old_kicks, old_interrupts, within_set}
 use Rattle.vd_state.proofs.state.State.set_avail.Goals as goal
 
