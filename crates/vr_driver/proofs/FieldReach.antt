@@ -1,12 +1,14 @@
 -- The fields of a ring are in reach where the ring is.
-use Rattle.std.proofs.Common.{◌≡◌, ℕ, ◌+◌, ◌<◌, ◌≤◌, ◌^◌, Option, sym, subst, arith}
+use Rattle.std.proofs.Common.{◌≡◌, ℕ, ◌+◌, ◌*◌, ◌<◌, ◌≤◌, ◌^◌, Option, sym, subst, arith}
 use Rattle.std.specs.Option.{ForSome}
 use Rattle.std.proofs.lemmas.Grind.{common_steps}
 use Rattle.vd_num.specs.declared.number.Range.{Range}
 use Rattle.vd_model.specs.Memory.{Memory, IsFinite}
 use Rattle.vd_model.specs.Rings.{ring_address}
-use Rattle.vr_split.specs.Reach.{Reaches}
+use Rattle.vd_model.specs.declared.queue.RingPlace.{RingPlace}
+use Rattle.vr_split.specs.Reach.{Reaches, KeepsReach}
 use Rattle.vr_split.specs.ReachLemmas.{Reaches-part, Reaches-ends}
+use Rattle.vr_driver.specs.Driver.{RingInReach}
 
 whole_address : (start offset : ℕ) → start + offset < 2 ^ 64 → ring_address start offset ≡ start + offset
 whole_address start offset h = grind (arith, common_steps)
@@ -22,3 +24,11 @@ field_reached told span start n offset k a f s some h e r =
 -- what is reached after calls that keep what is told and the span
 pub reached_still : (told told' : Option Memory) (span span' : Option Range) (at n : ℕ) → told' ≡ told → span' ≡ span → Reaches told span at n → Reaches told' span' at n
 reached_still told told' span span' at n e h r = rw (e, h) r
+
+-- the ring is in reach still
+pub ring_still : (told told' : Option Memory) (span span' : Option Range) (place : RingPlace) → KeepsReach told told' span span' → RingInReach told span place → RingInReach told' span' place
+ring_still told told' span span' place kept r = record {
+  desc = kept place.desc (16 * place.size) r.desc;
+  driver = kept place.driver (6 + 2 * place.size) r.driver;
+  device = kept place.device (6 + 8 * place.size) r.device;
+}

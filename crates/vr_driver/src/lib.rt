@@ -9,6 +9,8 @@ mod completion;
 mod free;
 mod ring;
 mod table;
+#[cfg(test)]
+mod tests;
 
 pub use completion::{Completion, UsedError};
 pub use ring::{AddError, DriverRing, Published};

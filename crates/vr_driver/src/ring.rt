@@ -191,7 +191,8 @@ impl DriverRing {
             &mut self.picked,
             parts,
         );
-        store16_in_reach(mem, available_slot(&self.place, self.added), head);
+        let slot = available_slot(&self.place, self.added);
+        store16_in_reach(mem, slot, head);
         self.added = self.added.wrapping_add(1);
         Ok(head)
     }

@@ -19,4 +19,4 @@ store16_in_reach-requires g c =
     let ring = subst (λ (p : RingPlace). RingInReach (g.M.Mem.told c.args.mem.now) (g.M.Mem.span c.args.mem.now) p) (sym place) c.requires.in_reach in
     let some : 0 < c.self.inside.place.size = c.self.invariant.3 in
     let slot : c.self.inside.added % c.self.inside.place.size < c.self.inside.place.size = omega arith in
-    field_reached (g.M.Mem.told c.place_chain-head.new.mem) (g.M.Mem.span c.place_chain-head.new.mem) c.self.inside.place.driver (6 + 2 * c.self.inside.place.size) (4 + 2 * (c.self.inside.added % c.self.inside.place.size)) 2 c.available_slot.result (g.met.M.Mem.told_ends c.place_chain-head.new.mem) (g.met.M.Mem.span_ends c.place_chain-head.new.mem) (omega arith) (omega arith) c.available_slot.ensures (c.place_chain-head.ensures.reach c.self.inside.place.driver (6 + 2 * c.self.inside.place.size) ring.driver)
+    field_reached (g.M.Mem.told c.place_chain-head.new.mem) (g.M.Mem.span c.place_chain-head.new.mem) c.self.inside.place.driver (6 + 2 * c.self.inside.place.size) (4 + 2 * (c.self.inside.added % c.self.inside.place.size)) 2 c.available_slot-slot.result (g.met.M.Mem.told_ends c.place_chain-head.new.mem) (g.met.M.Mem.span_ends c.place_chain-head.new.mem) (omega arith) (omega arith) c.available_slot-slot.ensures (c.place_chain-head.ensures.reach c.self.inside.place.driver (6 + 2 * c.self.inside.place.size) ring.driver)
