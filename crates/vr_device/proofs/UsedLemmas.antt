@@ -9,7 +9,7 @@ use Rattle.vd_model.specs.Rings.{next16, used_index_at, used_element_at}
 use Rattle.vr_split.specs.Mem.{Stores}
 use Rattle.vr_split.specs.ReachLemmas.{there-written}
 use Rattle.vr_device.specs.Side.{Side}
-use Rattle.vr_device.specs.Device.{both_read, used_fields, element_bytes, with_used}
+use Rattle.vr_device.specs.Device.{both_read, used_fields, element_bytes, with_element, with_used}
 
 -- the first byte is there, and the others are
 first_there : (a : ℕ) (o : Option ℕ) (r : Result (List ℕ) ℕ) → IsOk (byte_then a o r) → IsSome o × IsOk r
@@ -46,6 +46,14 @@ pub record Places (side : Side) (head len element index next : ℕ) (bytes : Lis
   pub index_is : index ≡ used_index_at side.place
   pub next_is : next ≡ next16 side.used
   pub bytes_are : bytes ≡ element_bytes head len
+
+-- what stands after the first store
+pub element_stored : (m : Memory) (side : Side) (head len element index next : ℕ) (bytes : List ℕ) (first second : Option Memory) (done : Unit {0}) → Places side head len element index next bytes → first ≡ Some m
+    → ForSome first (λ m. Stores m element bytes (Ok done) second) → second ≡ Some (with_element m side head len)
+element_stored m side head len element index next bytes first second done p told h =
+    (h m told).1
+    ∙ ap (λ (a : ℕ). Some (written m a bytes)) p.element_is
+    ∙ ap (λ (b : List ℕ). Some (written m (used_element_at side.place side.used) b)) p.bytes_are
 
 -- what stands after both stores
 pub pushed : (m : Memory) (side : Side) (head len element index next : ℕ) (bytes : List ℕ) (first second third : Option Memory) (done also : Unit {0}) → Places side head len element index next bytes → first ≡ Some m → IsOk (used_fields m side)

@@ -75,10 +75,13 @@ abbrev pub Checks : Memory → Side → Result (Unit {0}) Unmapped → Type 0
 Checks m side (Ok _) = IsOk (used_fields m side)
 Checks m side (Err bus) = used_fields m side ≡ Err bus.at
 
--- the map with the element, and then with the index after it
+-- the map with the element
+abbrev pub with_element : Memory → Side → ℕ → ℕ → Memory
+with_element m side head len = written m (used_element_at side.place side.used) (element_bytes head len)
+
+-- and then with the index after it
 abbrev pub with_used : Memory → Side → ℕ → ℕ → Memory
-with_used m side head len =
-    written (written m (used_element_at side.place side.used) (element_bytes head len)) (used_index_at side.place) (little_bytes 2 (next16 side.used))
+with_used m side head len = written (with_element m side head len) (used_index_at side.place) (little_bytes 2 (next16 side.used))
 
 -- both are written, or the answer is the first address at which no byte stands and nothing is
 abbrev pub Pushes : Memory → Side → ℕ → ℕ → Result (Unit {0}) Unmapped → Option Memory → Type 0

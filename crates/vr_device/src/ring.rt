@@ -1,10 +1,10 @@
 //! Taking chains from a ring, and giving them back.
-ghost use Rattle.std.specs.Prelude.{◌≡◌, ◌<◌, ◌≤◌, IfOk, IsOk, OnOk, OnErr, true, false};
+ghost use Rattle.std.specs.Prelude.{◌≡◌, ◌<◌, ◌≤◌, Some, IfOk, IsOk, OnOk, OnErr, true, false};
 ghost use Rattle.std.specs.Option.{ForSome};
 ghost use Rattle.byteorder.specs.Endian.{little_bytes};
 ghost use Rattle.vd_model.specs.Rings.{available_event_at, next16};
 ghost use Rattle.vr_split.specs.Mem.{Stores};
-ghost use Rattle.vr_device.specs.Device.{resumed, next_of, IsUnlessMemory, Checks, Pushes, interrupt, element_bytes};
+ghost use Rattle.vr_device.specs.Device.{resumed, next_of, IsUnlessMemory, Checks, Pushes, interrupt, element_bytes, with_element};
 
 use crate::error::PopError;
 use std::alloc::Global;
@@ -143,6 +143,11 @@ impl DeviceRing {
         ensures stays { OnErr result (self.new ≡ self.old) }
 
         ensures pushed { ForSome (M.told mem.old) (λ m. Pushes m self.old head len result (M.told mem.new)) }
+
+        // The element stands before the index tells of it: in a state between, it is all that was written.
+        ensures element_first { OnOk result (ForSome (M.told mem.old) (λ m. (between : M)
+            × (M.told between ≡ Some (with_element m self.old head len))
+            × M.keeps mem.old between × M.keeps between mem.new)) }
 
         ensures span { M.span mem.new ≡ M.span mem.old }
         ensures keeps { M.keeps mem.old mem.new }
