@@ -1,0 +1,116 @@
+//! The whole of a run: its words, its script, and the replies.
+
+ghost use Rattle.std.specs.Prelude.{◌≡◌, ◌++◌, ℕ, List, [], IfOk, OnOk, Some, None, map, string_bytes, true};
+ghost use Rattle.vd_io.specs.Told.{Rose};
+ghost use Rattle.vd_model.specs.Setting.{Setting};
+ghost use Rattle.vd_model.specs.Served.{control_served, area_served, driver_served, device_served, served, served_reading};
+ghost use Rattle.vd_model.specs.Replies.{reply_line};
+ghost use Rattle.vd_options.specs.Words.{Sizes, asked_sizes};
+ghost use Rattle.vd_engine.specs.Stands.{plain};
+ghost use Rattle.vd_engine.specs.Written.{Says, EndsAt, stop_of_status, is_status};
+
+use crate::script::{Exit, Language, Line, run, usage};
+use std::alloc::{AllocError, Global};
+use vd_io::{Image, Sink, Source};
+use vd_model::{Answer, AreaStep, Bytes, ControlStep, DevStep, DriverStep, Step};
+use vd_options::read_words;
+use vd_script::LineError;
+
+/// The grammar of scripts, of which the served line forms are read.
+pub struct Grammar;
+
+fn is_control_served(step: &ControlStep) -> bool
+    ensures { result ≡ control_served step.now }
+{
+    matches!(step, ControlStep::Dev { .. })
+}
+
+fn is_area_served(step: &AreaStep) -> bool
+    ensures { result ≡ area_served step.now }
+{
+    matches!(step, AreaStep::Load { .. } | AreaStep::Store { .. })
+}
+
+fn is_driver_served(step: &DriverStep) -> bool
+    ensures { result ≡ driver_served step.now }
+{
+    matches!(
+        step,
+        DriverStep::Buf { .. }
+            | DriverStep::Peek { .. }
+            | DriverStep::Map { .. }
+            | DriverStep::Unmap { .. }
+    )
+}
+
+fn is_device_served(step: &DevStep) -> bool
+    ensures { result ≡ device_served step.now }
+{
+    match step {
+        DevStep::Area(line) => is_area_served(line),
+        DevStep::Driver(line) => is_driver_served(line),
+        _ => false,
+    }
+}
+
+/// Whether the line form of the step is served.
+fn is_served(step: &Step) -> bool
+    ensures { result ≡ served step.now }
+{
+    match step {
+        Step::Control(line) => is_control_served(line),
+        Step::Device { step: line, .. } => is_device_served(line),
+        Step::Queue { .. } => false,
+    }
+}
+
+impl Language for Grammar {
+    fn read_line(&self, alloc: Global, line: &[u8]) -> Result<Line, AllocError> {
+        match vd_script::read_line(alloc, line) {
+            Ok(None) => Ok(Line::Nothing),
+            Ok(Some(step)) => {
+                if is_served(&step) {
+                    Ok(Line::Asks(step))
+                } else {
+                    Ok(Line::Bad)
+                }
+            }
+            Err(LineError::Bad) => Ok(Line::Bad),
+            Err(LineError::Memory) => Err(AllocError),
+        }
+    }
+
+    fn print_answer(&self, answer: &Answer, into: &mut Bytes) -> Result<(), AllocError> {
+        vd_script::print_answer(answer, into)
+    }
+}
+
+/// Runs the script that the source gives, with the words of a run.
+pub fn script_top<S: Source, K: Sink, I: Image>(
+    alloc: Global,
+    words: &Vec<String>,
+    source: &mut S,
+    sink: &mut K,
+    disk: &mut I,
+) -> Exit
+    // Status 2: exactly where the words aren't those of a run; then nothing is read or written.
+    ensures usage { asked_sizes (map string_bytes words.now.items) ≡ None → (result.status ≡ 2) × (S.left source.new ≡ S.left source.old) × (K.held sink.new ≡ K.held sink.old) }
+
+    // Every other status, by the text, and what is left and written of it.
+    ensures ended { (sizes : Sizes) (x : Setting) (text : List ℕ) → asked_sizes (map string_bytes words.now.items) ≡ Some sizes →
+        x.bounce ≡ sizes.bounce → S.left source.old ≡ Some text →
+        EndsAt (plain x) text (stop_of_status result.status) result.line result.lines_done (S.left source.new) (K.held sink.old) (K.held sink.new) }
+
+    // A fault of the outside is told only where there was one.
+    ensures source_failed { result.status ≡ 3 → Rose (S.faults source.old) (S.faults source.new) }
+    ensures sink_failed { result.status ≡ 4 → Rose (K.faults sink.old) (K.faults sink.new) }
+
+    // No other status than those of the table is answered, and 2 for its words alone.
+    ensures known { (sizes : Sizes) → asked_sizes (map string_bytes words.now.items) ≡ Some sizes → is_status result.status ≡ true }
+    ensures disk_failures { result.disk_failures ≡ [] }
+{
+    match read_words(alloc, words) {
+        Err(_) => usage(alloc),
+        Ok(options) => run(alloc, &options, &Grammar, source, sink, disk),
+    }
+}
