@@ -4,6 +4,9 @@
 //! the contract below says that it is the one that stands in `specs/Sessions.antt` as text.
 #![tactic(auto)]
 
+#[cfg(test)]
+mod tests;
+
 ghost use Rattle.vd_worked.specs.Sessions.{BouncedWrite, BusAndCoherent, ControlNode, DriverRing, EmptyInput, FirstLoadTwoDevices, FirstLoad, FramesBetweenDevices, FullBounce, HeldBySession, IoctlFeatures, IoctlRefusals, Kicks, LargePage, LookupAndReset, MapRefusals, OldBytesShow, PlacementLarge, Placement, RawMessages, Registration, Requeue, ShortTail, TimeoutNone, Timeout};
 
 /// The definitions answer each worked session as it stands in `specs/Sessions.antt`.
