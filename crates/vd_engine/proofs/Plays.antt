@@ -6,7 +6,8 @@ use Rattle.std.proofs.lemmas.List.{take-append-drop}
 use Rattle.vd_io.specs.Told.{Pushed}
 use Rattle.std.proofs.lemmas.List.Sums.{take_while-cons}
 use Rattle.std.proofs.lemmas.List.Folds.{list_all-append}
-use Rattle.std.proofs.lemmas.Bool.Decides.{nat_tests}
+use Rattle.std.proofs.lemmas.Bool.Decides.{nat_tests, eqb_tells}
+use Rattle.std.proofs.Common.{◌⊎◌, inl, inr}
 use Rattle.vd_model.specs.declared.step.Step.{Step}
 use Rattle.vd_model.specs.Setting.{Setting}
 use Rattle.vd_model.specs.History.{History}
@@ -339,3 +340,25 @@ status_four SinkFailed e = refl
 status_four Memory e = absurd (omega arith)
 status_four BadLine e = absurd (omega arith)
 status_four TooLong e = absurd (omega arith)
+
+-- without a fault, a text whose lines are all good ends with 0, or for want of memory
+nat_tells : (a b : ℕ) → (a ≡ b) ⊎ (a ≢ b)
+nat_tells a b = elim (eqb_tells a b) [ inl h ↦ inl h.1 | inr h ↦ inr h.1 ]
+
+pub complete : (x : Setting) (text : List ℕ) (status line lines : ℕ) (left old new : Option (List ℕ)) → is_status status ≡ true → EndsAt x text (stop_of_status status) line lines left old new
+    → stop_of text ≡ At_the_end → (status ≡ 3 → ⊥) → (status ≡ 4 → ⊥) → (status ≡ 0) ⊎ (status ≡ 5)
+complete x text status line lines left old new known ends whole source sink = by (nat_tells status 6) (nat_tells status 7) where
+  bad : status ≡ 6 → ⊥
+  bad six = let e = subst (λ s. EndsAt x text (stop_of_status s) line lines left old new) six ends in let f : Not_in_grammar line ≡ At_the_end = sym e.0 ∙ whole in cc
+
+  long : status ≡ 7 → ⊥
+  long seven = let e = subst (λ s. EndsAt x text (stop_of_status s) line lines left old new) seven ends in let f : Too_long line ≡ At_the_end = sym e.0 ∙ whole in cc
+
+  rest : (status ≡ 6 → ⊥) → (status ≡ 7 → ⊥) → ((status ≡ 0) ⊎ (status ≢ 0)) → (status ≡ 0) ⊎ (status ≡ 5)
+  rest six seven (inl zero) = inl zero
+  rest six seven (inr other) = inr (let five : status ≡ 5 = grind (arith, nat_tests, known, other, source, sink, six, seven) in five)
+
+  by : ((status ≡ 6) ⊎ (status ≢ 6)) → ((status ≡ 7) ⊎ (status ≢ 7)) → (status ≡ 0) ⊎ (status ≡ 5)
+  by (inl six) seven = absurd (bad six)
+  by (inr six) (inl seven) = absurd (long seven)
+  by (inr six) (inr seven) = rest six seven (nat_tells status 0)

@@ -125,8 +125,15 @@ fn answer_onto<L: Language, I: Image>(
     }
 }
 
-/// Writes the replies that wait, once they are many.
-fn flush<K: Sink>(out: &mut Bytes, sink: &mut K) -> Result<(), Failed>
+/// Writes the replies that wait, once they are many, and notes that so many lines are written.
+fn flush<K: Sink>(
+    out: &mut Bytes,
+    sink: &mut K,
+    lines: u64,
+    flushed: &mut u64,
+) -> Result<(), Failed>
+    requires { flushed.old ≤ lines }
+    ensures noted { flushed.new ≤ lines }
     ensures ok { OnOk result (Flushed (K.held sink.old) (K.held sink.new) out.old out.new) }
     ensures front { OnErr result (AppendedFront (K.held sink.old) (K.held sink.new) out.old) }
     ensures later { K.faults sink.old ≤ K.faults sink.new }
@@ -137,14 +144,17 @@ fn flush<K: Sink>(out: &mut Bytes, sink: &mut K) -> Result<(), Failed>
     }
     write_all(sink, out.as_slice())?;
     out.clear();
+    *flushed = lines;
     Ok(())
 }
 
-/// Where a script has come: why it stopped, and how many lines were answered.
+/// Where a script has come: why it stopped, how many lines were answered, and of how many the
+/// replies were written when they were last written.
 #[derive(Clone, Copy, Debug, PartialEq, Eq)]
 pub struct Progress {
     pub stop: Stop,
     pub lines: u64,
+    pub flushed: u64,
 }
 
 /// Answers the lines that the source gives, until there is none or one stops the run. The replies
@@ -167,38 +177,49 @@ fn play<L: Language, S: Source, K: Sink, I: Image>(
     ensures source_later { S.faults source.old ≤ S.faults source.new }
     ensures sink_later { K.faults sink.old ≤ K.faults sink.new }
     ensures few { result.lines < 2 ^ 62 }
+    ensures noted { result.flushed ≤ result.lines }
 {
     let mut reader = LineReader::new(alloc);
     let mut reply = Bytes::new(alloc);
     let mut lines = 0;
+    let mut flushed = 0;
     loop {
         match reader.advance(source) {
             Ok(Next::Line) => {}
             Ok(Next::Last) => {
                 let line = reader.line();
                 return match answer_onto(alloc, language, engine, disk, line, out, &mut reply) {
-                    Err(stop) => Progress { stop, lines },
+                    Err(stop) => Progress {
+                        stop,
+                        lines,
+                        flushed,
+                    },
                     Ok(()) => Progress {
                         stop: Stop::End,
                         lines: lines + 1,
+                        flushed,
                     },
                 };
             }
             Ok(Next::End) => return Progress {
                 stop: Stop::End,
                 lines,
+                flushed,
             },
             Err(ReadFault::Failed) => return Progress {
                 stop: Stop::SourceFailed,
                 lines,
+                flushed,
             },
             Err(ReadFault::TooLong) => return Progress {
                 stop: Stop::TooLong,
                 lines,
+                flushed,
             },
             Err(ReadFault::Memory) => return Progress {
                 stop: Stop::Memory,
                 lines,
+                flushed,
             },
         }
         match answer_onto(
@@ -210,14 +231,19 @@ fn play<L: Language, S: Source, K: Sink, I: Image>(
             out,
             &mut reply,
         ) {
-            Err(stop) => return Progress { stop, lines },
+            Err(stop) => return Progress {
+                stop,
+                lines,
+                flushed,
+            },
             Ok(()) => {}
         }
         lines += 1;
-        match flush(out, sink) {
+        match flush(out, sink, lines, &mut flushed) {
             Err(Failed) => return Progress {
                 stop: Stop::SinkFailed,
                 lines,
+                flushed,
             },
             Ok(()) => {}
         }
@@ -285,10 +311,10 @@ pub fn run<L: Language, S: Source, K: Sink, I: Image>(
     let mut out = Bytes::new(alloc);
     let played = play(alloc, language, &mut engine, &mut out, source, sink, disk);
     match played.stop {
-        Stop::SinkFailed => ended(alloc, Stop::SinkFailed, played.lines),
+        Stop::SinkFailed => ended(alloc, Stop::SinkFailed, played.flushed),
         stop => match write_all(sink, out.as_slice()) {
             Ok(()) => ended(alloc, stop, played.lines),
-            Err(Failed) => ended(alloc, Stop::SinkFailed, played.lines),
+            Err(Failed) => ended(alloc, Stop::SinkFailed, played.flushed),
         },
     }
 }

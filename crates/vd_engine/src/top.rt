@@ -1,10 +1,11 @@
 //! The whole of a run: its words, its script, and the replies.
 
-ghost use Rattle.std.specs.Prelude.{◌≡◌, ◌++◌, ℕ, List, [], IfOk, OnOk, Some, None, map, string_bytes, true};
+ghost use Rattle.std.specs.Prelude.{◌≡◌, ◌⊎◌, ◌++◌, ℕ, List, [], IfOk, OnOk, Some, None, map, string_bytes, true};
 ghost use Rattle.vd_io.specs.Told.{Rose};
 ghost use Rattle.vd_model.specs.Setting.{Setting};
 ghost use Rattle.vd_model.specs.Served.{control_served, area_served, driver_served, device_served, served, served_reading};
 ghost use Rattle.vd_model.specs.Replies.{reply_line};
+ghost use Rattle.vd_model.specs.Out.{stop_of, At_the_end};
 ghost use Rattle.vd_options.specs.Words.{Sizes, asked_sizes};
 ghost use Rattle.vd_engine.specs.Stands.{plain};
 ghost use Rattle.vd_engine.specs.Written.{Says, EndsAt, stop_of_status, is_status};
@@ -108,6 +109,12 @@ pub fn script_top<S: Source, K: Sink, I: Image>(
     // No other status than those of the table is answered, and 2 for its words alone.
     ensures known { (sizes : Sizes) → asked_sizes (map string_bytes words.now.items) ≡ Some sizes → is_status result.status ≡ true }
     ensures disk_failures { result.disk_failures ≡ [] }
+
+    // Without a fault, a script of good lines is answered whole, or memory runs out.
+    ensures complete { (sizes : Sizes) (x : Setting) (text : List ℕ) → asked_sizes (map string_bytes words.now.items) ≡ Some sizes →
+        x.bounce ≡ sizes.bounce → S.left source.old ≡ Some text → stop_of text ≡ At_the_end →
+        (Rose (S.faults source.old) (S.faults source.new) → ⊥) → (Rose (K.faults sink.old) (K.faults sink.new) → ⊥) →
+        (result.status ≡ 0) ⊎ (result.status ≡ 5) }
 {
     match read_words(alloc, words) {
         Err(_) => usage(alloc),

@@ -8,10 +8,10 @@
 #![tactic(auto)]
 
 use std::alloc::AllocError;
-use std::io;
+use std::io::ErrorKind;
 use std::process::ExitCode;
 use std::rt::Env;
-use std::{env, io::ErrorKind};
+use std::{env, io};
 use vd_engine::script_top;
 use vd_io::{MemImage, StdSink, StdSource};
 use vd_num::Lines;
@@ -40,3 +40,6 @@ fn main(rt: HostRuntime) -> ExitCode {
     let exit = script_top(rt.alloc(), &words, &mut source, &mut sink, &mut disk);
     ExitCode::from(exit.status)
 }
+
+#[cfg(test)]
+mod tests;

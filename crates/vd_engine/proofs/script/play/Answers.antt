@@ -23,6 +23,7 @@ loop-reader-init g c =
       asked = omega (arith, asked);
       room = omega (arith, taken, pending);
       taken = omega (arith, taken);
+      flushed = omega arith;
       source = omega arith;
       sink = omega arith;
     }
@@ -129,6 +130,7 @@ loop-reader-preserved g c =
       asked = omega (arith, asked, one);
       room = omega (arith, room, less, small, before);
       taken = small;
+      flushed = c.flush.ensures.noted;
       source = omega (arith, source, source_later);
       sink = omega (arith, sink, sink_later);
     }

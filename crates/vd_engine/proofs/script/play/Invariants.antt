@@ -11,6 +11,7 @@ invariant-loop-reader g l = record {
   asked : l.engine.asked ≤ l.lines;
   room : l.lines + (67108864 - l.reader.taken + length l.reader.pending) ≤ 67108864;
   taken : l.reader.taken ≤ 67108864;
+  flushed : l.flushed ≤ l.lines;
   source : g.S.Source.faults l.fn.source ≤ g.S.Source.faults l.source;
   sink : g.K.Sink.faults l.fn.sink ≤ g.K.Sink.faults l.sink;
 }

@@ -9,7 +9,7 @@ pub returns-in-SinkFailed-clause-ended : goal.returns-in-SinkFailed-clause-ended
 returns-in-SinkFailed-clause-ended g c = λ x text bounce told.
     let played = c.play-played.ensures.played x text (c.in-Ok.ensures.stands x bounce) told in
     let failed = subst (λ s. Played x text s c.play-played.result.lines c.play-played.new.out (g.S.Source.left c.play-played.new.source) (g.K.Sink.held c.args.sink.now) (g.K.Sink.held c.play-played.new.sink)) c.in-SinkFailed.is played in
-    ends_by (plain x) text SinkFailed c.play-played.result.lines c.ended-in-SinkFailed.result (g.S.Source.left c.play-played.new.source) (g.K.Sink.held c.args.sink.now) (g.K.Sink.held c.play-played.new.sink)
+    ends_by (plain x) text SinkFailed c.play-played.result.flushed c.ended-in-SinkFailed.result (g.S.Source.left c.play-played.new.source) (g.K.Sink.held c.args.sink.now) (g.K.Sink.held c.play-played.new.sink)
     c.ended-in-SinkFailed.ensures.stop c.ended-in-SinkFailed.ensures.line c.ended-in-SinkFailed.ensures.lines_done
     (ends_failed x text c.play-played.new.out c.play-played.result.lines (g.S.Source.left c.play-played.new.source) (g.K.Sink.held c.args.sink.now) (g.K.Sink.held c.play-played.new.sink) failed)
 
@@ -43,7 +43,7 @@ returns g c =
           let played = c.play-played.ensures.played x text (c.in-Ok.ensures.stands x bounce) told in
           let written : AppendedFront (g.K.Sink.held c.play-played.new.sink) (g.K.Sink.held c.write_all.new.sink) c.play-played.new.out =
           subst (λ t. AppendedFront (g.K.Sink.held c.play-played.new.sink) (g.K.Sink.held c.write_all.new.sink) t) c.as_slice.ensures c.in-Err-write_all.ensures.front in
-          ends_by (plain x) text SinkFailed c.play-played.result.lines e.result (g.S.Source.left c.play-played.new.source) (g.K.Sink.held c.args.sink.now) (g.K.Sink.held c.write_all.new.sink)
+          ends_by (plain x) text SinkFailed c.play-played.result.flushed e.result (g.S.Source.left c.play-played.new.source) (g.K.Sink.held c.args.sink.now) (g.K.Sink.held c.write_all.new.sink)
           e.ensures.stop e.ensures.line e.ensures.lines_done
           (ends_front x text c.play-played.new.out (g.S.Source.left c.play-played.new.source) (g.K.Sink.held c.args.sink.now) (g.K.Sink.held c.play-played.new.sink) (g.K.Sink.held c.write_all.new.sink)
           c.play-played.result.stop c.play-played.result.lines c.in_default.not-SinkFailed played written);

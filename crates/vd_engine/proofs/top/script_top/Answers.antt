@@ -1,0 +1,10 @@
+use Rattle.std.proofs.Common.{◌≡◌, ◌∙◌, sym, ap, Some}
+use Rattle.vd_engine.specs.Stands.{plain}
+use Rattle.vd_engine.proofs.Plays.{complete}
+use Rattle.vd_engine.proofs.top.script_top.Goals as goal
+
+pub returns-in-Ok-clause-complete : goal.returns-in-Ok-clause-complete
+returns-in-Ok-clause-complete g c = λ sizes x text asked bounce told whole source sink.
+    let same : Some sizes ≡ Some (record { bounce = c.in-Ok.options.bounce_pages; iova = c.in-Ok.options.iova_pages }) = sym asked ∙ c.in-Ok.ensures.sizes_are in
+    let pages : x.bounce ≡ c.in-Ok.options.bounce_pages = bounce ∙ (let e : sizes ≡ record { bounce = c.in-Ok.options.bounce_pages; iova = c.in-Ok.options.iova_pages } = cc in ap (λ s. s.bounce) e) in
+    complete (plain x) text c.run.result.status c.run.result.line c.run.result.lines_done _ _ _ c.run.ensures.known (c.run.ensures.ended x text pages told) whole (λ three. source (c.run.ensures.source_failed three)) (λ four. sink (c.run.ensures.sink_failed four))
