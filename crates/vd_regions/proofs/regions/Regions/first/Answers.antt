@@ -1,4 +1,4 @@
-use Rattle.std.proofs.Common.{◌≡◌, sym, subst, ◌∙◌, List}
+use Rattle.std.proofs.Common.{◌≡◌, subst, ◌∙◌, List}
 use Rattle.vd_model.specs.declared.memory.Region.{Region}
 use Rattle.vd_model.specs.AreaTurns.{overlaps, first_region}
 use Rattle.vd_regions.proofs.Lists.{lowest_first}
