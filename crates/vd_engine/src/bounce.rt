@@ -67,7 +67,8 @@ impl Bounce {
         ensures { IfOk result (λ b. (length b.present ≡ pages) × ((page : ℕ) → is_page b page ≡ false)) }
     {
         let present = vec![in alloc; false; pages as usize]?;
-        let bytes = vec![in alloc; 0; (pages * PAGE_SIZE) as usize]?;
+        let mut bytes = Vec::new(alloc);
+        bytes.resize((pages * PAGE_SIZE) as usize, 0u8)?;
         Ok(Bounce { present, bytes })
     }
 
