@@ -3,7 +3,7 @@
 ghost use Rattle.std.specs.Prelude.{◌≡◌, ◌⊎◌, ◌++◌, ℕ, List, [], IfOk, OnOk, Some, None, map, string_bytes, true};
 ghost use Rattle.vd_io.specs.Told.{Rose};
 ghost use Rattle.vd_model.specs.Setting.{Setting};
-ghost use Rattle.vd_model.specs.Served.{control_served, area_served, driver_served, device_served, served, served_reading};
+ghost use Rattle.vd_model.specs.Served.{served_reading};
 ghost use Rattle.vd_model.specs.Replies.{reply_line};
 ghost use Rattle.vd_model.specs.Out.{stop_of, At_the_end};
 ghost use Rattle.vd_options.specs.Words.{Sizes, asked_sizes};
@@ -13,64 +13,19 @@ ghost use Rattle.vd_engine.specs.Written.{Says, EndsAt, stop_of_status, is_statu
 use crate::script::{Exit, Language, Line, run, usage};
 use std::alloc::{AllocError, Global};
 use vd_io::{Image, Sink, Source};
-use vd_model::{Answer, AreaStep, Bytes, ControlStep, DevStep, DriverStep, Step};
+use vd_model::{Answer, Bytes, served};
 use vd_options::read_words;
 use vd_script::LineError;
 
 /// The grammar of scripts, of which the served line forms are read.
 pub struct Grammar;
 
-fn is_control_served(step: &ControlStep) -> bool
-    ensures { result ≡ control_served step.now }
-{
-    matches!(step, ControlStep::Dev { .. })
-}
-
-fn is_area_served(step: &AreaStep) -> bool
-    ensures { result ≡ area_served step.now }
-{
-    matches!(step, AreaStep::Load { .. } | AreaStep::Store { .. })
-}
-
-fn is_driver_served(step: &DriverStep) -> bool
-    ensures { result ≡ driver_served step.now }
-{
-    matches!(
-        step,
-        DriverStep::Buf { .. }
-            | DriverStep::Peek { .. }
-            | DriverStep::Map { .. }
-            | DriverStep::Unmap { .. }
-    )
-}
-
-fn is_device_served(step: &DevStep) -> bool
-    ensures { result ≡ device_served step.now }
-{
-    match step {
-        DevStep::Area(line) => is_area_served(line),
-        DevStep::Driver(line) => is_driver_served(line),
-        _ => false,
-    }
-}
-
-/// Whether the line form of the step is served.
-fn is_served(step: &Step) -> bool
-    ensures { result ≡ served step.now }
-{
-    match step {
-        Step::Control(line) => is_control_served(line),
-        Step::Device { step: line, .. } => is_device_served(line),
-        Step::Queue { .. } => false,
-    }
-}
-
 impl Language for Grammar {
     fn read_line(&self, alloc: Global, line: &[u8]) -> Result<Line, AllocError> {
         match vd_script::read_line(alloc, line) {
             Ok(None) => Ok(Line::Nothing),
             Ok(Some(step)) => {
-                if is_served(&step) {
+                if served(&step) {
                     Ok(Line::Asks(step))
                 } else {
                     Ok(Line::Bad)
