@@ -7,8 +7,6 @@ use Rattle.vd_model.specs.declared.queue.QueueInfo.{QueueInfo}
 use Rattle.vd_model.specs.declared.queue.RingPlace.{RingPlace}
 use Rattle.vd_model.specs.declared.parts.Part.{Part}
 use Rattle.vd_model.specs.declared.parts.Chain.{Chain}
-use Rattle.vd_model.specs.declared.descriptor.Position.{Position}
-use Rattle.vd_model.specs.declared.answer.ChainKind.TheVariants.{Loop}
 use Rattle.vd_model.specs.declared.answer.Tag.TheVariants as tag
 use Rattle.vd_model.specs.declared.answer.Item.{Item}
 use Rattle.vd_model.specs.declared.answer.Item.TheVariants.{Word, Number}
@@ -20,7 +18,7 @@ use Rattle.vd_model.specs.State.{features_of, info_of, is_ready}
 use Rattle.vd_model.specs.Puts.{shown}
 use Rattle.vd_model.specs.Memory.{Memory, read}
 use Rattle.vd_model.specs.Rings.{minus16, next16, needs_event, number16, available_flags_at, available_index_at, available_slot_at, used_event_at, used_index_at, used_element_at, available_event_at}
-use Rattle.vd_model.specs.Trace.{Start, start_of, first_position, Ending, whole, faulty, missing, fault_of, ending_at, next_position}
+use Rattle.vd_model.specs.Trace.{start_of, Ending, whole, faulty, missing, ending_of}
 use Rattle.vd_model.specs.Turn.{Turn, refused, refuse, given}
 use Rattle.vd_model.specs.AreaTurns.{is_accessible}
 use Rattle.vd_model.specs.BusTurns.{done_with, is_missing}
@@ -49,22 +47,6 @@ abbrev pub has_event_idx : List Act → Bool
 has_event_idx done = has_feature (features_of (state_acts done)) 29
 
 -- ---- chains
-
--- an ending, or what comes of the next position, if there is one
-abbrev pub ends_or : Option Ending → (Position → Ending) → Option Position → Position → Ending
-ends_or (Some ending) more next p = ending
-ends_or None more (Some next) p = more next
-ends_or None more None p = fault_of p Loop
-
--- how a trace ends that goes on from a position after others, within so many positions; a trace of more than the ring's
--- and a table's descriptors comes back to one of them
-unfoldable pub followed : ℕ → Start → Memory → List Position → Position → Ending
-followed zero s m before p = fault_of p Loop
-followed (suc n) s m before p = ends_or (ending_at s m before p) (λ next. followed n s m (p ∷ before) next) (next_position m p) p
-
--- how the trace of a chain ends
-abbrev pub ending_of : Start → Memory → Ending
-ending_of s m = followed (s.ring.size + 32770) s m [] (first_position s)
 
 -- an ending that is no chain is answered as it is
 abbrev pub chain_or : Ending → (Chain → Turn Act) → Turn Act

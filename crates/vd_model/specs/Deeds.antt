@@ -73,6 +73,18 @@ image_byte x (On name (Disk (Stored at bytes)) ∷ before) i =
     unwrap_or (byte_in bytes (window_start name before + at) i) (image_byte x before i)
 image_byte x (_ ∷ before) i = image_byte x before i
 
+-- the acts of a name in the whole run, those on devices of the name that are gone among them
+abbrev pub ever : List ℕ → List Deed → List Act
+ever name [] = []
+ever name (On done act ∷ before) = if bytes_eq name done then act ∷ ever name before else ever name before
+ever name (_ ∷ before) = ever name before
+
+-- byte i of a window: the last one that these acts stored there, else that of the window at the start
+abbrev pub window_byte : (ℕ → ℕ) → List Act → ℕ → ℕ
+window_byte start [] i = start i
+window_byte start (Disk (Stored at bytes) ∷ acts) i = unwrap_or (byte_in bytes at i) (window_byte start acts i)
+window_byte start (_ ∷ acts) i = window_byte start acts i
+
 -- all that a line on a device may look at: what the device was made with, its acts, the time, its window, and the
 -- bytes of its window
 pub record Seen : Type 0 where
@@ -88,5 +100,5 @@ seen x name done = record {
   acts = own name done;
   now = clock done;
   window = window_of name done;
-  disk = λ j. image_byte x done (window_start name done + j);
+  disk = window_byte (λ i. x.content (window_start name done + i)) (ever name done);
 }
