@@ -1,6 +1,6 @@
 -- Worked sessions: each script line and its reply, as the definitions compute them.
-use Rattle.std.specs.Prelude.{◌≡◌, ℕ, List, [], ◌∷◌, codes}
-use Rattle.vd_worked.specs.Told.{told, setting}
+use Rattle.std.specs.Prelude.{◌≡◌, [], ◌∷◌, codes}
+use Rattle.vd_worked.specs.Told.{told, told_failing, setting}
 
 abbrev pub BouncedWrite : Type 0
 BouncedWrite = told (setting 16384 32768 1 2048)
@@ -126,3 +126,54 @@ abbrev pub Timeout : Type 0
 Timeout = told (setting 16384 32768 1 2048)
     (codes "dev v" ∷ codes "setstatus v 1" ∷ codes "setstatus v 3" ∷ codes "tick 29" ∷ codes "take v 0" ∷ codes "tick 1" ∷ codes "take v 0" ∷ codes "take v 1" ∷ codes "setstatus v 7" ∷ codes "recv v" ∷ [])
     ≡ (codes "ok session 0" ∷ codes "ok id 0" ∷ codes "ok id 1" ∷ codes "ok 29" ∷ codes "pending" ∷ codes "ok 30" ∷ codes "failed timeout 30 30" ∷ codes "failed timeout 30 30" ∷ codes "err 5" ∷ codes "err 11" ∷ [])
+
+abbrev pub WalkFaults : Type 0
+WalkFaults = told (setting 16384 32768 1 2048)
+    (codes "dev v" ∷ codes "ring v 0 4" ∷ codes "vqnum v 0 4" ∷ codes "vqaddr v 0 0x7fff000 0x7fff040 0x7fff050" ∷ codes "cput v 0 0 00f0ff03000000001000000001000000" ∷ codes "walk v 0 0" ∷ codes "walk v 0 4" ∷ codes "cput v 0 0 00f0ff03000000001000000001000400" ∷ codes "walk v 0 0" ∷ codes "cput v 0 0 00f0ff03000000001800000004000000" ∷ codes "walk v 0 0" ∷ codes "cput v 0 0 00f0ff03000000001000000003000100" ∷ codes "walk v 0 0" ∷ codes "cput v 0 0 00f0ff03000000001000000000000000" ∷ codes "walk v 0 0" ∷ [])
+    ≡ (codes "ok session 0" ∷ codes "ok 0 desc 0x7fff000 driver 0x7fff040 device 0x7fff050" ∷ codes "ok" ∷ codes "ok" ∷ codes "ok" ∷ codes "chain loop 0 0" ∷ codes "chain head 0 4" ∷ codes "ok" ∷ codes "chain next 0 0" ∷ codes "ok" ∷ codes "chain shape 0 0" ∷ codes "ok" ∷ codes "chain order 0 1" ∷ codes "ok" ∷ codes "ok parts 1 readable 16 writable 0" ∷ [])
+
+abbrev pub HostileAbsentPage : Type 0
+HostileAbsentPage = told (setting 16384 32768 1 2048)
+    (codes "dev v" ∷ codes "ring v 0 4" ∷ codes "vqnum v 0 4" ∷ codes "vqaddr v 0 0x7fff000 0x7fff040 0x7fff050" ∷ codes "vqready v 0 1" ∷ codes "add v 0 r:0x1000:16 w:0x3fff000:1" ∷ codes "publish v 0" ∷ codes "fetch v 0" ∷ codes "fetch v 0" ∷ [])
+    ≡ (codes "ok session 0" ∷ codes "ok 0 desc 0x7fff000 driver 0x7fff040 device 0x7fff050" ∷ codes "ok" ∷ codes "ok" ∷ codes "ok" ∷ codes "ok head 0" ∷ codes "ok idx 1 kick 1" ∷ codes "bus 0x1000" ∷ codes "bus 0x1000" ∷ [])
+
+abbrev pub HostileAddressPastTheEnd : Type 0
+HostileAddressPastTheEnd = told (setting 16384 32768 1 2048)
+    (codes "dev v" ∷ codes "ring v 0 4" ∷ codes "vqnum v 0 4" ∷ codes "vqaddr v 0 0x7fff000 0x7fff040 0x7fff050" ∷ codes "vqready v 0 1" ∷ codes "vqaddr v 0 0x7fff000 0xfffffffffffffffe 0x7fff050" ∷ codes "fetch v 0" ∷ [])
+    ≡ (codes "ok session 0" ∷ codes "ok 0 desc 0x7fff000 driver 0x7fff040 device 0x7fff050" ∷ codes "ok" ∷ codes "ok" ∷ codes "ok" ∷ codes "ok" ∷ codes "bus 0x0" ∷ [])
+
+abbrev pub HostileIndexTooFar : Type 0
+HostileIndexTooFar = told (setting 16384 32768 1 2048)
+    (codes "dev v" ∷ codes "ring v 0 4" ∷ codes "vqnum v 0 4" ∷ codes "vqaddr v 0 0x7fff000 0x7fff040 0x7fff050" ∷ codes "vqready v 0 1" ∷ codes "cput v 0 66 0500" ∷ codes "fetch v 0" ∷ codes "cput v 0 66 0000" ∷ codes "fetch v 0" ∷ [])
+    ≡ (codes "ok session 0" ∷ codes "ok 0 desc 0x7fff000 driver 0x7fff040 device 0x7fff050" ∷ codes "ok" ∷ codes "ok" ∷ codes "ok" ∷ codes "ok" ∷ codes "ahead 5 0" ∷ codes "ok" ∷ codes "err 11" ∷ [])
+
+abbrev pub HostileNoRequest : Type 0
+HostileNoRequest = told (setting 16384 32768 1 2048)
+    (codes "dev v" ∷ codes "ring v 0 4" ∷ codes "vqnum v 0 4" ∷ codes "vqaddr v 0 0x7fff000 0x7fff040 0x7fff050" ∷ codes "vqready v 0 1" ∷ codes "add v 0 r:0x3fff000:16" ∷ codes "publish v 0" ∷ codes "fetch v 0" ∷ [])
+    ≡ (codes "ok session 0" ∷ codes "ok 0 desc 0x7fff000 driver 0x7fff040 device 0x7fff050" ∷ codes "ok" ∷ codes "ok" ∷ codes "ok" ∷ codes "ok head 0" ∷ codes "ok idx 1 kick 1" ∷ codes "shape 16 0" ∷ [])
+
+abbrev pub HostileRingNowhere : Type 0
+HostileRingNowhere = told (setting 16384 32768 1 2048)
+    (codes "dev v" ∷ codes "ring v 0 4" ∷ codes "vqnum v 0 4" ∷ codes "vqaddr v 0 0x7fff000 0x7fff040 0x7fff050" ∷ codes "vqready v 0 1" ∷ codes "vqaddr v 0 0 0 0" ∷ codes "fetch v 0" ∷ [])
+    ≡ (codes "ok session 0" ∷ codes "ok 0 desc 0x7fff000 driver 0x7fff040 device 0x7fff050" ∷ codes "ok" ∷ codes "ok" ∷ codes "ok" ∷ codes "ok" ∷ codes "bus 0x2" ∷ [])
+
+abbrev pub DaemonLoss : Type 0
+DaemonLoss = told (setting 16384 32768 1 64)
+    (codes "create vda 0 2 0x330000200 1 4096 400000000000000000000000000000000000000000000000000000000000000000000000" ∷ codes "open vda" ∷ codes "vqsetup vda 0 256" ∷ codes "attach vda" ∷ codes "image vda 0 64" ∷ codes "setstatus vda 1" ∷ codes "recv vda" ∷ codes "answer vda 0 0 0" ∷ codes "take vda 0" ∷ codes "setstatus vda 3" ∷ codes "recv vda" ∷ codes "answer vda 1 0 0" ∷ codes "take vda 1" ∷ codes "setfeatures vda 0x330000200" ∷ codes "setstatus vda 11" ∷ codes "recv vda" ∷ codes "answer vda 2 0 0" ∷ codes "take vda 2" ∷ codes "ring vda 0 256" ∷ codes "vqnum vda 0 256" ∷ codes "vqaddr vda 0 0x7ffe000 0x7fff000 0x7fff208" ∷ codes "callback vda 0 1" ∷ codes "kickfd vda 0 1" ∷ codes "vqready vda 0 1" ∷ codes "setstatus vda 15" ∷ codes "recv vda" ∷ codes "answer vda 3 0 0" ∷ codes "take vda 3" ∷ codes "zeros vda 4096" ∷ codes "poke vda 0 0 6162" ∷ codes "submit vda 0 write 8 0 0 4096" ∷ codes "kick vda 0" ∷ codes "kicks vda 0" ∷ codes "fetch vda 0" ∷ codes "close vda" ∷ codes "open vda" ∷ codes "execute vda 0" ∷ codes "fetch vda 0" ∷ codes "execute vda 0" ∷ codes "close vda" ∷ codes "open vda" ∷ codes "finish vda 0" ∷ codes "fetch vda 0" ∷ codes "execute vda 0" ∷ codes "finish vda 0" ∷ codes "close vda" ∷ codes "open vda" ∷ codes "fetch vda 0" ∷ codes "poll vda 0" ∷ [])
+    ≡ (codes "ok" ∷ codes "ok session 0" ∷ codes "ok" ∷ codes "ok" ∷ codes "ok" ∷ codes "ok id 0" ∷ codes "ok id 0 status 1" ∷ codes "ok" ∷ codes "ok" ∷ codes "ok id 1" ∷ codes "ok id 1 status 3" ∷ codes "ok" ∷ codes "ok" ∷ codes "ok" ∷ codes "ok id 2" ∷ codes "ok id 2 status 11" ∷ codes "ok" ∷ codes "ok" ∷ codes "ok 0 desc 0x7ffe000 driver 0x7fff000 device 0x7fff208" ∷ codes "ok" ∷ codes "ok" ∷ codes "ok" ∷ codes "ok" ∷ codes "ok" ∷ codes "ok id 3" ∷ codes "ok id 3 status 15" ∷ codes "ok" ∷ codes "ok" ∷ codes "ok 0" ∷ codes "ok" ∷ codes "ok head 0 idx 1 kick 1 buf 1 map 0" ∷ codes "ok" ∷ codes "ok 1" ∷ codes "ok head 0 type 1 sector 8" ∷ codes "ok" ∷ codes "ok session 1" ∷ codes "err 2" ∷ codes "ok head 0 type 1 sector 8" ∷ codes "ok status 0" ∷ codes "ok" ∷ codes "ok session 2" ∷ codes "err 2" ∷ codes "ok head 0 type 1 sector 8" ∷ codes "ok status 0" ∷ codes "ok len 1 irq 1" ∷ codes "ok" ∷ codes "ok session 3" ∷ codes "err 11" ∷ codes "ok head 0 len 1 status 0" ∷ [])
+
+abbrev pub WholeSessionOwned : Type 0
+WholeSessionOwned = told (setting 16384 32768 1 64)
+    (codes "create vda 0 2 0x330000200 1 4096 400000000000000000000000000000000000000000000000000000000000000000000000" ∷ codes "open vda" ∷ codes "vqsetup vda 0 256" ∷ codes "attach vda" ∷ codes "image vda 0 64" ∷ codes "setstatus vda 1" ∷ codes "recv vda" ∷ codes "answer vda 0 0 0" ∷ codes "take vda 0" ∷ codes "setstatus vda 3" ∷ codes "recv vda" ∷ codes "answer vda 1 0 0" ∷ codes "take vda 1" ∷ codes "setfeatures vda 0x330000200" ∷ codes "setstatus vda 11" ∷ codes "recv vda" ∷ codes "answer vda 2 0 0" ∷ codes "take vda 2" ∷ codes "ring vda 0 256" ∷ codes "vqnum vda 0 256" ∷ codes "vqaddr vda 0 0x7ffe000 0x7fff000 0x7fff208" ∷ codes "callback vda 0 1" ∷ codes "kickfd vda 0 1" ∷ codes "vqready vda 0 1" ∷ codes "setstatus vda 15" ∷ codes "recv vda" ∷ codes "answer vda 3 0 0" ∷ codes "take vda 3" ∷ codes "zeros vda 4096" ∷ codes "poke vda 0 0 6162" ∷ codes "submit vda 0 write 8 0 0 4096" ∷ codes "map vda 2 0 48 to" ∷ codes "submit vda 0 id 2 0" ∷ codes "free vda 1" ∷ codes "unmap vda 0" ∷ codes "kick vda 0" ∷ codes "kicks vda 0" ∷ codes "fetch vda 0" ∷ codes "execute vda 0" ∷ codes "finish vda 0" ∷ codes "irq vda 0" ∷ codes "irqs vda 0" ∷ codes "poll vda 0" ∷ codes "poll vda 0" ∷ codes "zeros vda 4096" ∷ codes "submit vda 0 read 8 3 0 4096" ∷ codes "fetch vda 0" ∷ codes "execute vda 0" ∷ codes "finish vda 0" ∷ codes "poll vda 0" ∷ codes "peek vda 3 0 3" ∷ codes "submit vda 0 flush" ∷ codes "fetch vda 0" ∷ codes "execute vda 0" ∷ codes "finish vda 0" ∷ codes "poll vda 0" ∷ codes "zeros vda 20" ∷ codes "submit vda 0 id 8 0" ∷ codes "fetch vda 0" ∷ codes "execute vda 0" ∷ codes "finish vda 0" ∷ codes "poll vda 0" ∷ codes "peek vda 8 0 4" ∷ codes "submit vda 0 read 63 3 0 1024" ∷ codes "fetch vda 0" ∷ codes "execute vda 0" ∷ codes "finish vda 0" ∷ codes "poll vda 0" ∷ [])
+    ≡ (codes "ok" ∷ codes "ok session 0" ∷ codes "ok" ∷ codes "ok" ∷ codes "ok" ∷ codes "ok id 0" ∷ codes "ok id 0 status 1" ∷ codes "ok" ∷ codes "ok" ∷ codes "ok id 1" ∷ codes "ok id 1 status 3" ∷ codes "ok" ∷ codes "ok" ∷ codes "ok" ∷ codes "ok id 2" ∷ codes "ok id 2 status 11" ∷ codes "ok" ∷ codes "ok" ∷ codes "ok 0 desc 0x7ffe000 driver 0x7fff000 device 0x7fff208" ∷ codes "ok" ∷ codes "ok" ∷ codes "ok" ∷ codes "ok" ∷ codes "ok" ∷ codes "ok id 3" ∷ codes "ok id 3 status 15" ∷ codes "ok" ∷ codes "ok" ∷ codes "ok 0" ∷ codes "ok" ∷ codes "ok head 0 idx 1 kick 1 buf 1 map 0" ∷ codes "err 16" ∷ codes "err 16" ∷ codes "err 16" ∷ codes "err 16" ∷ codes "ok" ∷ codes "ok 1" ∷ codes "ok head 0 type 1 sector 8" ∷ codes "ok status 0" ∷ codes "ok len 1 irq 1" ∷ codes "ok" ∷ codes "ok 1" ∷ codes "ok head 0 len 1 status 0" ∷ codes "err 11" ∷ codes "ok 3" ∷ codes "ok head 0 idx 2 kick 1 buf 4 map 4" ∷ codes "ok head 0 type 0 sector 8" ∷ codes "ok status 0" ∷ codes "ok len 4097 irq 1" ∷ codes "ok head 0 len 4097 status 0" ∷ codes "ok 616200" ∷ codes "ok head 0 idx 3 kick 1 buf 6 map 8" ∷ codes "ok head 0 type 4 sector 0" ∷ codes "ok status 0" ∷ codes "ok len 1 irq 1" ∷ codes "ok head 0 len 1 status 0" ∷ codes "ok 8" ∷ codes "ok head 0 idx 4 kick 1 buf 9 map 11" ∷ codes "ok head 0 type 8 sector 0" ∷ codes "ok status 0" ∷ codes "ok len 21 irq 1" ∷ codes "ok head 0 len 21 status 0" ∷ codes "ok 76646100" ∷ codes "ok head 0 idx 5 kick 1 buf 11 map 15" ∷ codes "ok head 0 type 0 sector 63" ∷ codes "ok status 1" ∷ codes "ok len 1025 irq 1" ∷ codes "ok head 0 len 1025 status 1" ∷ [])
+
+abbrev pub WholeSession : Type 0
+WholeSession = told (setting 16384 32768 1 64)
+    (codes "create vda 0 2 0x330000200 1 4096 400000000000000000000000000000000000000000000000000000000000000000000000" ∷ codes "open vda" ∷ codes "vqsetup vda 0 256" ∷ codes "attach vda" ∷ codes "image vda 0 64" ∷ codes "setstatus vda 1" ∷ codes "recv vda" ∷ codes "answer vda 0 0 0" ∷ codes "take vda 0" ∷ codes "setstatus vda 3" ∷ codes "recv vda" ∷ codes "answer vda 1 0 0" ∷ codes "take vda 1" ∷ codes "setfeatures vda 0x330000200" ∷ codes "setstatus vda 11" ∷ codes "recv vda" ∷ codes "answer vda 2 0 0" ∷ codes "take vda 2" ∷ codes "ring vda 0 256" ∷ codes "vqnum vda 0 256" ∷ codes "vqaddr vda 0 0x7ffe000 0x7fff000 0x7fff208" ∷ codes "callback vda 0 1" ∷ codes "kickfd vda 0 1" ∷ codes "vqready vda 0 1" ∷ codes "setstatus vda 15" ∷ codes "recv vda" ∷ codes "answer vda 3 0 0" ∷ codes "take vda 3" ∷ codes "zeros vda 4096" ∷ codes "poke vda 0 0 6162" ∷ codes "submit vda 0 write 8 0 0 4096" ∷ codes "kick vda 0" ∷ codes "kicks vda 0" ∷ codes "fetch vda 0" ∷ codes "execute vda 0" ∷ codes "finish vda 0" ∷ codes "irq vda 0" ∷ codes "irqs vda 0" ∷ codes "poll vda 0" ∷ codes "poll vda 0" ∷ codes "zeros vda 4096" ∷ codes "submit vda 0 read 8 3 0 4096" ∷ codes "fetch vda 0" ∷ codes "execute vda 0" ∷ codes "finish vda 0" ∷ codes "poll vda 0" ∷ codes "peek vda 3 0 3" ∷ codes "submit vda 0 flush" ∷ codes "fetch vda 0" ∷ codes "execute vda 0" ∷ codes "finish vda 0" ∷ codes "poll vda 0" ∷ codes "zeros vda 20" ∷ codes "submit vda 0 id 8 0" ∷ codes "fetch vda 0" ∷ codes "execute vda 0" ∷ codes "finish vda 0" ∷ codes "poll vda 0" ∷ codes "peek vda 8 0 4" ∷ codes "submit vda 0 read 63 3 0 1024" ∷ codes "fetch vda 0" ∷ codes "execute vda 0" ∷ codes "finish vda 0" ∷ codes "poll vda 0" ∷ [])
+    ≡ (codes "ok" ∷ codes "ok session 0" ∷ codes "ok" ∷ codes "ok" ∷ codes "ok" ∷ codes "ok id 0" ∷ codes "ok id 0 status 1" ∷ codes "ok" ∷ codes "ok" ∷ codes "ok id 1" ∷ codes "ok id 1 status 3" ∷ codes "ok" ∷ codes "ok" ∷ codes "ok" ∷ codes "ok id 2" ∷ codes "ok id 2 status 11" ∷ codes "ok" ∷ codes "ok" ∷ codes "ok 0 desc 0x7ffe000 driver 0x7fff000 device 0x7fff208" ∷ codes "ok" ∷ codes "ok" ∷ codes "ok" ∷ codes "ok" ∷ codes "ok" ∷ codes "ok id 3" ∷ codes "ok id 3 status 15" ∷ codes "ok" ∷ codes "ok" ∷ codes "ok 0" ∷ codes "ok" ∷ codes "ok head 0 idx 1 kick 1 buf 1 map 0" ∷ codes "ok" ∷ codes "ok 1" ∷ codes "ok head 0 type 1 sector 8" ∷ codes "ok status 0" ∷ codes "ok len 1 irq 1" ∷ codes "ok" ∷ codes "ok 1" ∷ codes "ok head 0 len 1 status 0" ∷ codes "err 11" ∷ codes "ok 3" ∷ codes "ok head 0 idx 2 kick 1 buf 4 map 4" ∷ codes "ok head 0 type 0 sector 8" ∷ codes "ok status 0" ∷ codes "ok len 4097 irq 1" ∷ codes "ok head 0 len 4097 status 0" ∷ codes "ok 616200" ∷ codes "ok head 0 idx 3 kick 1 buf 6 map 8" ∷ codes "ok head 0 type 4 sector 0" ∷ codes "ok status 0" ∷ codes "ok len 1 irq 1" ∷ codes "ok head 0 len 1 status 0" ∷ codes "ok 8" ∷ codes "ok head 0 idx 4 kick 1 buf 9 map 11" ∷ codes "ok head 0 type 8 sector 0" ∷ codes "ok status 0" ∷ codes "ok len 21 irq 1" ∷ codes "ok head 0 len 21 status 0" ∷ codes "ok 76646100" ∷ codes "ok head 0 idx 5 kick 1 buf 11 map 15" ∷ codes "ok head 0 type 0 sector 63" ∷ codes "ok status 1" ∷ codes "ok len 1025 irq 1" ∷ codes "ok head 0 len 1025 status 1" ∷ [])
+
+-- the image fails at the execution of the write, which then is answered with status 1 and stores nothing
+abbrev pub FailingImage : Type 0
+FailingImage = told_failing (setting 16384 32768 1 64) (35 ∷ [])
+    (codes "create vda 0 2 0x330000200 1 4096 400000000000000000000000000000000000000000000000000000000000000000000000" ∷ codes "open vda" ∷ codes "vqsetup vda 0 256" ∷ codes "attach vda" ∷ codes "image vda 0 64" ∷ codes "setstatus vda 1" ∷ codes "recv vda" ∷ codes "answer vda 0 0 0" ∷ codes "take vda 0" ∷ codes "setstatus vda 3" ∷ codes "recv vda" ∷ codes "answer vda 1 0 0" ∷ codes "take vda 1" ∷ codes "setfeatures vda 0x330000200" ∷ codes "setstatus vda 11" ∷ codes "recv vda" ∷ codes "answer vda 2 0 0" ∷ codes "take vda 2" ∷ codes "ring vda 0 256" ∷ codes "vqnum vda 0 256" ∷ codes "vqaddr vda 0 0x7ffe000 0x7fff000 0x7fff208" ∷ codes "callback vda 0 1" ∷ codes "kickfd vda 0 1" ∷ codes "vqready vda 0 1" ∷ codes "setstatus vda 15" ∷ codes "recv vda" ∷ codes "answer vda 3 0 0" ∷ codes "take vda 3" ∷ codes "zeros vda 4096" ∷ codes "poke vda 0 0 6162" ∷ codes "submit vda 0 write 8 0 0 4096" ∷ codes "kick vda 0" ∷ codes "kicks vda 0" ∷ codes "fetch vda 0" ∷ codes "execute vda 0" ∷ codes "finish vda 0" ∷ codes "irq vda 0" ∷ codes "irqs vda 0" ∷ codes "poll vda 0" ∷ codes "poll vda 0" ∷ codes "zeros vda 4096" ∷ codes "submit vda 0 read 8 3 0 4096" ∷ codes "fetch vda 0" ∷ codes "execute vda 0" ∷ codes "finish vda 0" ∷ codes "poll vda 0" ∷ codes "peek vda 3 0 3" ∷ [])
+    ≡ (codes "ok" ∷ codes "ok session 0" ∷ codes "ok" ∷ codes "ok" ∷ codes "ok" ∷ codes "ok id 0" ∷ codes "ok id 0 status 1" ∷ codes "ok" ∷ codes "ok" ∷ codes "ok id 1" ∷ codes "ok id 1 status 3" ∷ codes "ok" ∷ codes "ok" ∷ codes "ok" ∷ codes "ok id 2" ∷ codes "ok id 2 status 11" ∷ codes "ok" ∷ codes "ok" ∷ codes "ok 0 desc 0x7ffe000 driver 0x7fff000 device 0x7fff208" ∷ codes "ok" ∷ codes "ok" ∷ codes "ok" ∷ codes "ok" ∷ codes "ok" ∷ codes "ok id 3" ∷ codes "ok id 3 status 15" ∷ codes "ok" ∷ codes "ok" ∷ codes "ok 0" ∷ codes "ok" ∷ codes "ok head 0 idx 1 kick 1 buf 1 map 0" ∷ codes "ok" ∷ codes "ok 1" ∷ codes "ok head 0 type 1 sector 8" ∷ codes "ok status 1" ∷ codes "ok len 1 irq 1" ∷ codes "ok" ∷ codes "ok 1" ∷ codes "ok head 0 len 1 status 1" ∷ codes "err 11" ∷ codes "ok 3" ∷ codes "ok head 0 idx 2 kick 1 buf 4 map 4" ∷ codes "ok head 0 type 0 sector 8" ∷ codes "ok status 0" ∷ codes "ok len 4097 irq 1" ∷ codes "ok head 0 len 4097 status 0" ∷ codes "ok 000000" ∷ [])

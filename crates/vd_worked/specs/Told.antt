@@ -1,5 +1,6 @@
 -- The replies to some lines, each without its LF.
-use Rattle.std.specs.Prelude.{◌≡◌, ℕ, ◌-◌, List, [], ◌∷◌, Option, Some, None, codes, length, take, false}
+use Rattle.std.specs.Prelude.{ℕ, ◌+◌, ◌-◌, ◌==◌, Bool, List, [], ◌∷◌, Option, Some, None, codes, length, take}
+use Rattle.std.specs.List.{list_any}
 use Rattle.vd_model.specs.declared.step.Step.{Step}
 use Rattle.vd_model.specs.Setting.{Setting}
 use Rattle.vd_model.specs.Reading.{reading}
@@ -15,18 +16,25 @@ setting bounce iova per_page sectors =
 abbrev pub without_end : List ℕ → List ℕ
 without_end line = take (length line - 1) line
 
-abbrev pub asked : Step → History → History
-asked step h = record { step = step; failed = false } ∷ h
+abbrev pub asked : Step → Bool → History → History
+asked step failed h = record { step = step; failed = failed } ∷ h
 
--- the reply to what a line says, and to the lines after it
-abbrev pub told_by : Setting → History → Option (Option Step) → (History → List (List ℕ)) → List (List ℕ)
-told_by x h None more = codes "not in the grammar" ∷ []
-told_by x h (Some None) more = more h
-told_by x h (Some (Some step)) more = without_end (reply_line (reply x h step false)) ∷ more (asked step h)
+-- the reply to what a line says, where the image fails at it or not, and to the lines after it
+abbrev pub told_by : Setting → Bool → History → Option (Option Step) → (History → List (List ℕ)) → List (List ℕ)
+told_by x failed h None more = codes "not in the grammar" ∷ []
+told_by x failed h (Some None) more = more h
+told_by x failed h (Some (Some step)) more = without_end (reply_line (reply x h step failed)) ∷ more (asked step failed h)
 
-unfoldable pub told_from : Setting → History → List (List ℕ) → List (List ℕ)
-told_from x h [] = []
-told_from x h (line ∷ lines) = told_by x h (reading line) (λ later. told_from x later lines)
+-- the replies to lines that begin with the one of this number, where the image fails at the lines of some numbers
+unfoldable pub told_from : Setting → List ℕ → ℕ → History → List (List ℕ) → List (List ℕ)
+told_from x failing n h [] = []
+told_from x failing n h (line ∷ lines) =
+    told_by x (list_any (λ k. k == n) failing) h (reading line) (λ later. told_from x failing (n + 1) later lines)
 
+-- the image doesn't fail
 abbrev pub told : Setting → List (List ℕ) → List (List ℕ)
-told x lines = told_from x [] lines
+told x lines = told_from x [] 1 [] lines
+
+-- it fails at the lines of these numbers
+abbrev pub told_failing : Setting → List ℕ → List (List ℕ) → List (List ℕ)
+told_failing x failing lines = told_from x failing 1 [] lines

@@ -7,7 +7,7 @@
 #[cfg(test)]
 mod tests;
 
-ghost use Rattle.vd_worked.specs.Sessions.{BouncedWrite, BusAndCoherent, ControlNode, DriverRing, EmptyInput, FirstLoadTwoDevices, FirstLoad, FramesBetweenDevices, FullBounce, HeldBySession, IoctlFeatures, IoctlRefusals, Kicks, LargePage, LookupAndReset, MapRefusals, OldBytesShow, PlacementLarge, Placement, RawMessages, Registration, Requeue, ShortTail, TimeoutNone, Timeout};
+ghost use Rattle.vd_worked.specs.Sessions.{BouncedWrite, BusAndCoherent, ControlNode, DriverRing, EmptyInput, FirstLoadTwoDevices, FirstLoad, FramesBetweenDevices, FullBounce, HeldBySession, IoctlFeatures, IoctlRefusals, Kicks, LargePage, LookupAndReset, MapRefusals, OldBytesShow, PlacementLarge, Placement, RawMessages, Registration, Requeue, ShortTail, TimeoutNone, Timeout, WalkFaults, HostileAbsentPage, HostileAddressPastTheEnd, HostileIndexTooFar, HostileNoRequest, HostileRingNowhere, DaemonLoss, WholeSessionOwned, WholeSession, FailingImage};
 
 /// The definitions answer each worked session as it stands in `specs/Sessions.antt`.
 pub fn sessions()
@@ -36,4 +36,14 @@ pub fn sessions()
     ensures short_tail { ShortTail }
     ensures timeout_none { TimeoutNone }
     ensures timeout { Timeout }
+    ensures walk_faults { WalkFaults }
+    ensures hostile_absent_page { HostileAbsentPage }
+    ensures hostile_address_past_the_end { HostileAddressPastTheEnd }
+    ensures hostile_index_too_far { HostileIndexTooFar }
+    ensures hostile_no_request { HostileNoRequest }
+    ensures hostile_ring_nowhere { HostileRingNowhere }
+    ensures daemon_loss { DaemonLoss }
+    ensures whole_session_owned { WholeSessionOwned }
+    ensures whole_session { WholeSession }
+    ensures failing_image { FailingImage }
 {}

@@ -75,3 +75,33 @@ returns-clause-timeout_none c = worked.timeout_none
 
 pub returns-clause-timeout : goal.returns-clause-timeout
 returns-clause-timeout c = worked.timeout
+
+pub returns-clause-walk_faults : goal.returns-clause-walk_faults
+returns-clause-walk_faults c = worked.walk_faults
+
+pub returns-clause-hostile_absent_page : goal.returns-clause-hostile_absent_page
+returns-clause-hostile_absent_page c = worked.hostile_absent_page
+
+pub returns-clause-hostile_address_past_the_end : goal.returns-clause-hostile_address_past_the_end
+returns-clause-hostile_address_past_the_end c = worked.hostile_address_past_the_end
+
+pub returns-clause-hostile_index_too_far : goal.returns-clause-hostile_index_too_far
+returns-clause-hostile_index_too_far c = worked.hostile_index_too_far
+
+pub returns-clause-hostile_no_request : goal.returns-clause-hostile_no_request
+returns-clause-hostile_no_request c = worked.hostile_no_request
+
+pub returns-clause-hostile_ring_nowhere : goal.returns-clause-hostile_ring_nowhere
+returns-clause-hostile_ring_nowhere c = worked.hostile_ring_nowhere
+
+pub returns-clause-daemon_loss : goal.returns-clause-daemon_loss
+returns-clause-daemon_loss c = worked.daemon_loss
+
+pub returns-clause-whole_session_owned : goal.returns-clause-whole_session_owned
+returns-clause-whole_session_owned c = worked.whole_session_owned
+
+pub returns-clause-whole_session : goal.returns-clause-whole_session
+returns-clause-whole_session c = worked.whole_session
+
+pub returns-clause-failing_image : goal.returns-clause-failing_image
+returns-clause-failing_image c = worked.failing_image
