@@ -1,3 +1,4 @@
 pub mod Lists
 pub mod Legal
 pub mod Sound
+pub mod Plain
