@@ -2,3 +2,4 @@ pub mod Lists
 pub mod Legal
 pub mod Sound
 pub mod Plain
+pub mod PlainQueues
