@@ -3,3 +3,4 @@ pub mod Legal
 pub mod Sound
 pub mod Plain
 pub mod PlainQueues
+pub mod Chains
