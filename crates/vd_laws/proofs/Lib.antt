@@ -4,3 +4,6 @@ pub mod Sound
 pub mod Plain
 pub mod PlainQueues
 pub mod Chains
+pub mod Places
+pub mod DriverTurns
+pub mod AreaTurns

@@ -1,5 +1,5 @@
 -- What is among a list.
-use Rattle.std.proofs.Common.{◌≡◌, ℕ, zero, suc, Bool, true, false, refl, ap, subst, ◌∙◌, sym, Some, cond, List, [], ◌∷◌, ◌++◌, ◌||◌, find, ◌⊎◌, inl, inr, true≢false}
+use Rattle.std.proofs.Common.{◌≡◌, ℕ, zero, suc, Bool, true, false, refl, ap, subst, ◌∙◌, sym, Some, cond, List, [], ◌∷◌, ◌++◌, ◌||◌, find, map, ◌⊎◌, inl, inr, true≢false}
 use Rattle.std.specs.List.{list_any, filter}
 use Rattle.vd_model.specs.Place.{greatest}
 use Rattle.vd_laws.specs.Among.{Among}
@@ -77,3 +77,13 @@ any_found p (x ∷ xs) e = by (p x) refl e (any_found p xs) where
   by : (b : Bool) → p x ≡ b → (b || list_any p xs) ≡ true → (list_any p xs ≡ true → (y : _) × Among y xs × (p y ≡ true)) → (y : _) × Among y (x ∷ xs) × (p y ≡ true)
   by true f g later = (x, inl refl, f)
   by false f g later = let r = later g in (r.0, inr r.1, r.2)
+
+pub among_map : {X Y : Type 0} (f : X → Y) (m : X) (xs : List X) → Among m xs → Among (f m) (map f xs)
+among_map f m [] h = absurd h
+among_map f m (x ∷ xs) (inl e) = inl (ap f e)
+among_map f m (x ∷ xs) (inr h) = inr (among_map f m xs h)
+
+pub among_left : {X : Type 0} (m : X) (xs ys : List X) → Among m xs → Among m (xs ++ ys)
+among_left m [] ys h = absurd h
+among_left m (x ∷ xs) ys (inl e) = inl e
+among_left m (x ∷ xs) ys (inr h) = inr (among_left m xs ys h)
