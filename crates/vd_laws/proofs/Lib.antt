@@ -7,3 +7,6 @@ pub mod Chains
 pub mod Places
 pub mod DriverTurns
 pub mod AreaTurns
+pub mod RingPuts
+pub mod Requests
+pub mod Submits
