@@ -9,4 +9,3 @@ pub mod DriverTurns
 pub mod AreaTurns
 pub mod RingPuts
 pub mod Requests
-pub mod Submits
