@@ -19,7 +19,7 @@ use Rattle.vd_model.specs.Puts.{bus_bytes, area_bytes}
 use Rattle.vd_model.specs.Turn.{Turn, refuse, refused, given, told}
 use Rattle.vd_model.specs.AreaTurns.{first_bus, bus_or, first_region, daemon_regions, found_or, lookup_turn, iovainfo_turn, area_start, area_limit, part_refusal, may_register, area_turn}
 use Rattle.vd_laws.proofs.Legal.{Legal}
-use Rattle.vd_laws.proofs.DriverTurns.{IsLegal, refuse_legal, or_refused, not_given, not_not}
+use Rattle.vd_laws.proofs.Refusals.{IsLegal, refuse_legal, or_refused, not_given, not_not}
 
 is_none : (o : Option Registration) → is_some o ≡ false → o ≡ None
 is_none None e = refl

@@ -20,30 +20,8 @@ use Rattle.vd_laws.specs.Among.{Among}
 use Rattle.vd_laws.proofs.Lists.{found}
 use Rattle.vd_laws.proofs.Legal.{Legal}
 use Rattle.vd_laws.proofs.Sound.{sound}
+use Rattle.vd_laws.proofs.Refusals.{IsLegal, refuse_legal, or_refused, not_given, not_not}
 use Rattle.vd_laws.proofs.Places.{there_made, place_free, taken_held, fresh}
-
--- a turn whose acts are legal after these
-abbrev pub IsLegal : {A : Type 0} → Setting → (A → Act) → List Act → Turn A → Type 0
-IsLegal x as_act done turn = Legal x (map as_act turn.acts ++ done)
-
-module _ {A : Type 0} (x : Setting) (as_act : A → Act) (done : List Act) (legal : Legal x done) where
-  -- a refusal is
-  pub refuse_legal : (o : Option Errno) (turn : Turn A) → (o ≡ None → IsLegal x as_act done turn) → IsLegal x as_act done (refuse o turn)
-  refuse_legal None turn h = h refl
-  refuse_legal (Some errno) turn h = legal
-
-  pub or_refused : {B : Type 0} (f : B → Turn A) (o : Option B) (errno : Errno) → ((b : B) → o ≡ Some b → IsLegal x as_act done (f b)) → IsLegal x as_act done (option_map_or f o (refused errno))
-  or_refused f None errno h = legal
-  or_refused f (Some b) errno h = h b refl
-
--- a test that didn't refuse
-pub not_given : (test : Bool) (errno : Errno) → given test errno ≡ None → test ≡ false
-not_given true errno e = cc
-not_given false errno e = refl
-
-pub not_not : (b : Bool) → not b ≡ false → b ≡ true
-not_not true e = refl
-not_not false e = cc
 
 in_range : (o : Option ℕ) (offset len : ℕ) → range_refusal o offset len ≡ None → (size : ℕ) × (o ≡ Some size)
 in_range None offset len e = cc

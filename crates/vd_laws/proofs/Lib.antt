@@ -5,7 +5,10 @@ pub mod Plain
 pub mod PlainQueues
 pub mod Chains
 pub mod Places
+pub mod Refusals
 pub mod DriverTurns
 pub mod AreaTurns
 pub mod RingPuts
 pub mod Requests
+pub mod Submits
+pub mod RingTurns
