@@ -12,3 +12,4 @@ pub mod RingPuts
 pub mod Requests
 pub mod Submits
 pub mod RingTurns
+pub mod Turns
