@@ -13,3 +13,9 @@ pub mod Requests
 pub mod Submits
 pub mod RingTurns
 pub mod Turns
+pub mod Daemons
+pub mod Pages
+pub mod Ranges
+pub mod Shown
+pub mod Coherence
+pub mod Memory
