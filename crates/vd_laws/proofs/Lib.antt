@@ -18,4 +18,5 @@ pub mod Pages
 pub mod Ranges
 pub mod Shown
 pub mod Coherence
+pub mod Texts
 pub mod Memory
