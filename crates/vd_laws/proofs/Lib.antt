@@ -20,3 +20,6 @@ pub mod Shown
 pub mod Coherence
 pub mod Texts
 pub mod Memory
+pub mod Used
+pub mod Directs
+pub mod Loads

@@ -1,3 +1,5 @@
 pub mod Among
 pub mod Runs
 pub mod MemoryLaw
+pub mod UsedBytesLaw
+pub mod DirectLaw
