@@ -24,7 +24,7 @@ use Rattle.vd_laws.proofs.Pages.{on_slot}
 use Rattle.vd_laws.proofs.Shown.{by_address, arrives, stays}
 use Rattle.vd_laws.proofs.Texts.{text_there, text_absent}
 use Rattle.vd_laws.proofs.Turns.{own_legal}
-use Rattle.vd_laws.proofs.Memory.{moment_legal}
+use Rattle.vd_laws.proofs.Changes.{moment_legal}
 use Rattle.vd_laws.proofs.Coherence.{region_store}
 use Rattle.vd_laws.proofs.Loads.{loaded_byte}
 

@@ -19,7 +19,8 @@ pub mod Ranges
 pub mod Shown
 pub mod Coherence
 pub mod Texts
-pub mod Memory
-pub mod Used
+pub mod Changes
+pub mod Polls
+pub mod Brought
 pub mod Directs
 pub mod Loads

@@ -4,3 +4,11 @@
 //! It stands on the numbers and the model alone, and no code stands under it: the laws are about the
 //! model's definitions, and the engine hands them on for the run of a script.
 #![tactic(auto)]
+
+mod direct;
+mod memory;
+mod used;
+
+pub use direct::direct_transfer;
+pub use memory::driver_memory;
+pub use used::used_bytes;

@@ -9,7 +9,8 @@ use Rattle.vd_model.specs.Acts.{Act, NodeAct, Node, Driver, Streaming, Mapped, U
 use Rattle.vd_model.specs.Live.{live, iova_of, maps_address}
 use Rattle.vd_model.specs.Puts.{is_from_device, handed_if, last_put, shown, ram}
 use Rattle.vd_model.specs.Direct.{daemon_writes, brings_back}
-use Rattle.vd_model.specs.History.{History}
+use Rattle.vd_model.specs.Deeds.{seen}
+use Rattle.vd_model.specs.History.{History, deeds_of}
 use Rattle.vd_laws.specs.Among.{Among}
 use Rattle.vd_laws.specs.Runs.{IsAddressed}
 use Rattle.vd_laws.specs.UsedBytesLaw.{last_write, UsedBytesLaw}
@@ -19,7 +20,8 @@ use Rattle.vd_laws.proofs.Sound.{sound}
 use Rattle.vd_laws.proofs.Ranges.{in_range}
 use Rattle.vd_laws.proofs.Pages.{on_slot}
 use Rattle.vd_laws.proofs.Shown.{arrives, stays}
-use Rattle.vd_laws.proofs.Memory.{moment_legal, unmap_brings}
+use Rattle.vd_laws.proofs.Polls.{tells}
+use Rattle.vd_laws.proofs.Changes.{moment_legal, unmap_brings}
 
 module _ (x : Setting) (small : IsAddressed x) (m : Streaming) (i : ℕ) (below : i < m.want.len) where
   its : maps_address m (iova_of m + i) ≡ true
@@ -79,4 +81,7 @@ module _ (x : Setting) (small : IsAddressed x) (m : Streaming) (i : ℕ) (below 
       ∙ holds acts legal.1 legal.0 b e
 
 pub used_bytes_law : (x : Setting) (h : History) → UsedBytesLaw x h
-used_bytes_law x h small d m acts at from i below b e = comes_back x small m i below acts (moment_legal x h d (Driver (Unmapped m) ∷ acts) at) from b e
+used_bytes_law x h = record {
+  brought = λ small d m acts at from i below b e. comes_back x small m i below acts (moment_legal x h d (Driver (Unmapped m) ∷ acts) at) from b e;
+  polled = λ d q failed head len more e. tells x (seen x d (deeds_of x h)) d q failed head len more e;
+}
