@@ -3,3 +3,4 @@ pub mod Runs
 pub mod MemoryLaw
 pub mod UsedBytesLaw
 pub mod DirectLaw
+pub mod MemorySamples

@@ -9,6 +9,6 @@ mod direct;
 mod memory;
 mod used;
 
-pub use direct::direct_transfer;
-pub use memory::driver_memory;
-pub use used::used_bytes;
+pub use direct::{direct_transfer, instances_of_direct};
+pub use memory::{driver_memory, instances_of_memory};
+pub use used::{instances_of_used_bytes, used_bytes};
