@@ -1,10 +1,9 @@
 -- The daemon's turns on its memory are legal, and make no act of the driver.
-use Rattle.std.proofs.Common.{◌≡◌, ℕ, ◌+◌, ◌*◌, ◌-◌, ◌%◌, ◌<◌, ◌≤◌, Bool, true, false, refl, ap, ◌∙◌, sym, arith, Option, None, Some, List, [], ◌∷◌, ◌++◌, ◌==◌, ◌&&◌, ◌||◌, not, nat_le, nat_lt, map, length, is_some, unwrap_or}
+use Rattle.std.proofs.Common.{◌≡◌, ℕ, ◌+◌, ◌*◌, ◌-◌, ◌%◌, ◌<◌, ◌≤◌, Bool, true, false, refl, ap, ◌∙◌, arith, Option, None, Some, List, [], ◌∷◌, ◌==◌, ◌&&◌, ◌||◌, not, nat_le, nat_lt, length, is_some, unwrap_or}
 use Rattle.std.specs.Option.{option_map_or}
 use Rattle.std.proofs.lemmas.Bool.{and_parts, leb-true, eqb-true}
 use Rattle.std.proofs.lemmas.Bool.Decides.{nat_tests}
 use Rattle.std.proofs.Math.Nat.{mod-zero}
-use Rattle.vd_num.specs.declared.errno.Errno.{Errno}
 use Rattle.vd_num.specs.declared.errno.Errno.TheVariants.{Noent, Inval, Busy, Exist}
 use Rattle.vd_model.specs.declared.memory.Region.{Region}
 use Rattle.vd_model.specs.declared.step.AreaStep.{AreaStep}
@@ -14,7 +13,7 @@ use Rattle.vd_model.specs.declared.answer.Item.TheVariants.{Word, Address, Text}
 use Rattle.vd_model.specs.declared.answer.Answer.TheVariants.{Bus}
 use Rattle.vd_model.specs.Setting.{Setting, bounce_size}
 use Rattle.vd_model.specs.Acts.{Act, NodeAct, Node, Daemon_put, Area_made, Area_put, Registered, Deregistered}
-use Rattle.vd_model.specs.Live.{Registration, registered, area_len, is_bounce_live}
+use Rattle.vd_model.specs.Live.{Registration, registered, area_len}
 use Rattle.vd_model.specs.Puts.{bus_bytes, area_bytes}
 use Rattle.vd_model.specs.Turn.{Turn, refuse, refused, given, told}
 use Rattle.vd_model.specs.AreaTurns.{first_bus, bus_or, first_region, daemon_regions, found_or, lookup_turn, iovainfo_turn, area_start, area_limit, part_refusal, may_register, area_turn}

@@ -1,5 +1,5 @@
 -- The requests of the chains that are out have mappings of their own.
-use Rattle.std.proofs.Common.{◌≡◌, ℕ, ◌+◌, ◌<◌, ◌≤◌, Bool, true, false, refl, subst, ◌∙◌, sym, arith, cond, Option, None, Some, List, [], ◌∷◌, ◌++◌, ◌==◌, eqb-true, ◌⊎◌, inl, inr}
+use Rattle.std.proofs.Common.{◌≡◌, ℕ, ◌+◌, ◌<◌, ◌≤◌, Bool, true, false, refl, subst, ◌∙◌, sym, arith, cond, List, [], ◌∷◌, ◌++◌, ◌==◌, eqb-true, ◌⊎◌, inl, inr}
 use Rattle.std.specs.List.{filter}
 use Rattle.vd_model.specs.Setting.{Setting}
 use Rattle.vd_model.specs.Acts.{Act, Driver, Queue, Mapped, Added, Ring_made, Ring_dropped, Chain_added, Chains_published, Chain_reclaimed}
@@ -46,9 +46,11 @@ pushed_own acts q chain f o = record {
   distinct : (c : Added) → Among c (out acts q) ⊎ (c ≡ chain) → Distinct (maps_of c.request)
   distinct c (inl h) = o.distinct c h
   distinct c (inr e) = subst (λ c. Distinct (maps_of c.request)) (sym e) f.distinct
+
   below : (c : Added) → Among c (out acts q) ⊎ (c ≡ chain) → (k : ℕ) → Among k (maps_of c.request) → k < maps acts
   below c (inl h) k j = o.below c h k j
   below c (inr e) k j = f.made k (subst (λ c. Among k (maps_of c.request)) e j)
+
   once : (c d : Added) → Among c (out acts q) ⊎ (c ≡ chain) → Among d (out acts q) ⊎ (d ≡ chain) → (k : ℕ) → Among k (maps_of c.request) → Among k (maps_of d.request) → c ≡ d
   once c d (inl h) (inl g) k i j = o.once c d h g k i j
   once c d (inl h) (inr e) k i j = absurd (f.apart c h k i (subst (λ c. Among k (maps_of c.request)) e j))

@@ -1,15 +1,15 @@
 -- What changes a driver's memory: the law.
-use Rattle.std.proofs.Common.{◌≡◌, ℕ, Bool, true, false, refl, ap, subst, ◌∙◌, None, Some, cond, List, ◌∷◌, ◌++◌, ◌==◌, ◌&&◌, nat_lt, length, if◌then◌else◌}
+use Rattle.std.proofs.Common.{◌≡◌, ℕ, Bool, true, false, refl, ap, subst, None, List, ◌∷◌, ◌==◌, ◌&&◌, nat_lt, length, if◌then◌else◌}
 use Rattle.std.specs.Option.{option_map}
 use Rattle.vd_num.specs.Number.{is_within}
 use Rattle.vd_model.specs.declared.memory.Origin.TheVariants.{Handed}
 use Rattle.vd_model.specs.Setting.{Setting}
 use Rattle.vd_model.specs.Acts.{Act, Streaming, Driver, Buffer, Zeroed, Poked, Unmapped, Synced_cpu}
-use Rattle.vd_model.specs.Live.{buffers, registered}
+use Rattle.vd_model.specs.Live.{registered}
 use Rattle.vd_model.specs.Puts.{Ram, text_at, zero_if, put_if, put_or, home, last_put, shown, ram}
 use Rattle.vd_model.specs.Direct.{brings_back, address_for}
 use Rattle.vd_model.specs.History.{History}
-use Rattle.vd_laws.specs.Runs.{acts_of, IsMoment}
+use Rattle.vd_laws.specs.Runs.{IsMoment}
 use Rattle.vd_laws.specs.MemoryLaw.{may_change, MemoryLaw}
 use Rattle.vd_laws.proofs.Legal.{Legal}
 use Rattle.vd_laws.proofs.Sound.{earlier_legal}

@@ -8,7 +8,7 @@ use Rattle.vd_model.specs.declared.memory.Origin.TheVariants.{Daemon, Handed}
 use Rattle.vd_model.specs.Setting.{Setting, bounce_size}
 use Rattle.vd_model.specs.Acts.{Act, Node, Driver, Streaming, Coherent, Daemon_put, Deregistered, Mapped, Synced_device, Region_made, Driver_put}
 use Rattle.vd_model.specs.Live.{Registration, live_regions, registered, region_covers, in_use, iova_of, maps_address, page_of, meets_page, is_present}
-use Rattle.vd_model.specs.Puts.{Cell, Iova, Area, Put, byte_in, text_at, zero_if, put_if, put_or, or_put, handed_if, is_to_device, home, is_moved, handed_back, driver_put, address_put, address_put_if, put_at, last_put, shown}
+use Rattle.vd_model.specs.Puts.{Iova, Area, Put, byte_in, text_at, zero_if, put_if, or_put, handed_if, is_to_device, home, is_moved, handed_back, address_put, address_put_if, put_at, last_put, shown}
 use Rattle.vd_model.specs.Direct.{plain_store}
 use Rattle.vd_laws.specs.Among.{Among}
 use Rattle.vd_laws.specs.Runs.{IsWhole}
@@ -45,13 +45,15 @@ module _ (x : Setting) (whole : IsWhole x) (acts : List Act) (a : ℕ) (high : b
   by_kind (Driver (Mapped n)) h s = ap (λ b. or_put (handed_if (is_to_device n.want.dir && b) (last_put x.per_page acts) n a) (zero_if (meets_page x.per_page (page_of x.per_page a) n && not (is_present x.per_page acts (page_of x.per_page a)))))
       (past n h.fits) ∙ ap (λ b. or_put (handed_if (is_to_device n.want.dir && false) (last_put x.per_page acts) n a) (zero_if b))
       (and_left (meets_page x.per_page (page_of x.per_page a) n) (not (is_present x.per_page acts (page_of x.per_page a))) (off_page n h.fits)) ∙ none (is_to_device n.want.dir) where
-    past : (n : Streaming) → n.slot + pages_of n.want.len ≤ x.bounce → maps_address n a ≡ false
-    past n fits = past_range (iova_of n) n.want.len a (omega arith)
-    off_page : (n : Streaming) → n.slot + pages_of n.want.len ≤ x.bounce → meets_page x.per_page (page_of x.per_page a) n ≡ false
-    off_page n fits = past_pages x.per_page whole.0 a n (subst (λ k. n.slot + pages_of n.want.len ≤ k) whole.1 fits) (subst (λ k. 4096 * k ≤ a) whole.1 high)
-    none : (t : Bool) → or_put (handed_if (t && false) (last_put x.per_page acts) n a) (zero_if false) ≡ None
-    none true = refl
-    none false = refl
+        past : (n : Streaming) → n.slot + pages_of n.want.len ≤ x.bounce → maps_address n a ≡ false
+        past n fits = past_range (iova_of n) n.want.len a (omega arith)
+
+        off_page : (n : Streaming) → n.slot + pages_of n.want.len ≤ x.bounce → meets_page x.per_page (page_of x.per_page a) n ≡ false
+        off_page n fits = past_pages x.per_page whole.0 a n (subst (λ k. n.slot + pages_of n.want.len ≤ k) whole.1 fits) (subst (λ k. 4096 * k ≤ a) whole.1 high)
+
+        none : (t : Bool) → or_put (handed_if (t && false) (last_put x.per_page acts) n a) (zero_if false) ≡ None
+        none true = refl
+        none false = refl
   by_kind (Driver (Synced_device n)) h s = ap (λ b. handed_if b (last_put x.per_page acts) n a) (past n (s.fits n h.0)) where
     past : (n : Streaming) → n.slot + pages_of n.want.len ≤ x.bounce → maps_address n a ≡ false
     past n fits = past_range (iova_of n) n.want.len a (omega arith)

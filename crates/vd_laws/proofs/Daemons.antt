@@ -1,5 +1,5 @@
 -- A daemon's lines make no act of a driver.
-use Rattle.std.proofs.Common.{◌≡◌, ℕ, ◌+◌, Bool, true, false, refl, ap, ◌∙◌, sym, Option, None, Some, List, [], ◌∷◌, ◌++◌, map, if◌then◌else◌}
+use Rattle.std.proofs.Common.{◌≡◌, ℕ, Bool, true, false, refl, ap, ◌∙◌, Option, None, Some, List, [], ◌∷◌, ◌++◌, map, if◌then◌else◌}
 use Rattle.std.specs.List.{list_all}
 use Rattle.std.specs.Str.{bytes_eq}
 use Rattle.std.specs.Option.{option_map_or}
@@ -7,7 +7,7 @@ use Rattle.std.proofs.lemmas.Bool.{and_parts, and_from}
 use Rattle.vd_num.specs.declared.errno.Errno.{Errno}
 use Rattle.vd_num.specs.declared.errno.Errno.TheVariants.{Nodev}
 use Rattle.vd_model.specs.declared.step.Step.{Step}
-use Rattle.vd_model.specs.declared.step.Step.TheVariants.{Control, Device, Queue}
+use Rattle.vd_model.specs.declared.step.Step.TheVariants.{Device, Queue}
 use Rattle.vd_model.specs.declared.step.DevStep.{DevStep}
 use Rattle.vd_model.specs.declared.step.DevStep.TheVariants as line
 use Rattle.vd_model.specs.declared.step.QueueStep.{QueueStep}
@@ -21,8 +21,7 @@ use Rattle.vd_model.specs.Puts.{Ram, last_put, ram}
 use Rattle.vd_model.specs.Turn.{Turn, refuse, refused, lift}
 use Rattle.vd_model.specs.Raw.{Ioctl, Plain_node, Plain_area, Find_entry, Find_info, Tell_features, ioctl_of}
 use Rattle.vd_model.specs.AreaTurns.{found_or, area_turn}
-use Rattle.vd_model.specs.NodeTurns.{plain_turn, ioctl_turn, open_node_turn, node_turn}
-use Rattle.vd_model.specs.DaemonTurns.{walk_turn, fetch_turn, execute_turn, finish_turn}
+use Rattle.vd_model.specs.NodeTurns.{plain_turn, ioctl_turn, open_node_turn}
 use Rattle.vd_model.specs.Deeds.{Deed, own, Seen, seen}
 use Rattle.vd_model.specs.History.{History, deeds_of, disk_of, needs_session, dev_turn, queue_turn, device_turn, device_queue_turn, on, outcome}
 use Rattle.vd_laws.specs.Runs.{acts_of}

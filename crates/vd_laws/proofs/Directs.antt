@@ -40,6 +40,7 @@ highest_among i (m ∷ ms) l e = by (highest i ms) refl e (λ n f. highest_among
   pick : (n : Streaming) (b : Bool) → highest i ms ≡ Some n → (if b then n else m) ≡ l → ((n : Streaming) → highest i ms ≡ Some n → Among n ms) → (l ≡ m) ⊎ Among l ms
   pick n true f g later = inr (subst (λ n. Among n ms) g (later n f))
   pick n false f g later = inl (sym g)
+
   by : (o : Option Streaming) → highest i ms ≡ o → Some (higher i m o) ≡ Some l → ((n : Streaming) → highest i ms ≡ Some n → Among n ms) → (l ≡ m) ⊎ Among l ms
   by None f g later = let same : m ≡ l = cc in inl (sym same)
   by (Some n) f g later = let same : higher i m (Some n) ≡ l = cc in pick n (nat_lt (address_for m i) (address_for n i)) f same later
@@ -88,7 +89,7 @@ module _ (x : Setting) (small : IsAddressed x) (acts : List Act) (s : Sound x ac
   buffer_direct bytes = record {
     known = λ k i mark. by k i (k == buffers acts) mark;
     told = λ m there i below mark. kept (Driver (Buffer bytes)) tt m there i below mark refl
-      (ap (λ b. cond b (byte_in bytes 0 (m.want.offset + i)) None) (ne_eqb m.want.buffer (buffers acts) (λ e. let low = s.buffers_there m there in omega arith)));
+        (ap (λ b. cond b (byte_in bytes 0 (m.want.offset + i)) None) (ne_eqb m.want.buffer (buffers acts) (λ e. let low = s.buffers_there m there in omega arith)));
   } where
     by : (k i : ℕ) (b : Bool) → unwrap_or (cond b (mark_if (nat_lt i (length bytes)) true) None) (marked acts (Known k i)) ≡ true
         → (put_or (cond b (text_at bytes 0 i (Handed None)) None) (last_put x.per_page acts) (Ram k i)).byte ≡ unwrap_or (cond b (byte_in bytes 0 i) None) (direct acts k i)
@@ -100,7 +101,7 @@ module _ (x : Setting) (small : IsAddressed x) (acts : List Act) (s : Sound x ac
   zeroed_direct len = record {
     known = λ k i mark. by k i ((k == buffers acts) && nat_lt i len) mark;
     told = λ m there i below mark. kept (Driver (Zeroed len)) tt m there i below mark refl
-      (ap (λ b. cond (b && nat_lt (m.want.offset + i) len) (Some 0) None) (ne_eqb m.want.buffer (buffers acts) (λ e. let low = s.buffers_there m there in omega arith)));
+        (ap (λ b. cond (b && nat_lt (m.want.offset + i) len) (Some 0) None) (ne_eqb m.want.buffer (buffers acts) (λ e. let low = s.buffers_there m there in omega arith)));
   } where
     by : (k i : ℕ) (b : Bool) → unwrap_or (mark_if b true) (marked acts (Known k i)) ≡ true
         → (put_or (zero_if b) (last_put x.per_page acts) (Ram k i)).byte ≡ unwrap_or (cond b (Some 0) None) (direct acts k i)
@@ -116,6 +117,7 @@ module _ (x : Setting) (small : IsAddressed x) (acts : List Act) (s : Sound x ac
         → (put_or (cond b (text_at bytes at i (Handed None)) None) (last_put x.per_page acts) (Ram k i)).byte ≡ unwrap_or (cond b (byte_in bytes at i) None) (direct acts k i)
     by k i true mark = agree_text bytes at i (Handed None) (last_put x.per_page acts) (Ram k i) (direct acts k i) (marked acts (Known k i)) mark (d.known k i)
     by k i false mark = d.known k i mark
+
     told : (m : Streaming) → Among m (live acts) → (i : ℕ) → i < m.want.len → (b : Bool) → (m.want.buffer == buffer) ≡ b → (c : Bool) → is_within at (length bytes) (m.want.offset + i) ≡ c
         → unwrap_or (cond b (mark_if c false) None) (marked acts (Told m i)) ≡ true
         → (shown x.per_page (Driver (Poked buffer at bytes) ∷ acts) (iova_of m + i)).byte ≡ direct (Driver (Poked buffer at bytes) ∷ acts) m.want.buffer (m.want.offset + i)
@@ -185,11 +187,13 @@ module _ (x : Setting) (small : IsAddressed x) (acts : List Act) (s : Sound x ac
     new i below true e mark =
         ap (λ p. p.byte) (by_address x.per_page acts (Driver (Mapped n)) (iova_of n + i) refl (λ b. refl) (λ p. refl))
         ∙ ap (λ b. (unwrap_or (or_put (handed_if b (last_put x.per_page acts) n (iova_of n + i)) (zero_if (meets_page x.per_page (page_of x.per_page (iova_of n + i)) n && not (is_present x.per_page acts (page_of x.per_page (iova_of n + i)))))) (shown x.per_page acts (iova_of n + i))).byte)
-          (and_from (is_to_device n.want.dir) (maps_address n (iova_of n + i)) e (its n i below))
+        (and_from (is_to_device n.want.dir) (maps_address n (iova_of n + i)) e (its n i below))
         ∙ handed_is n i ∙ d.known n.want.buffer (n.want.offset + i) mark
+
     mark_is : (i : ℕ) → unwrap_or (mark_if (n.number == n.number) (is_to_device n.want.dir && marked acts (Known n.want.buffer (n.want.offset + i)))) (marked acts (Told n i)) ≡ true
         → is_to_device n.want.dir && marked acts (Known n.want.buffer (n.want.offset + i)) ≡ true
     mark_is i mark = sym (ap (λ b. unwrap_or (mark_if b (is_to_device n.want.dir && marked acts (Known n.want.buffer (n.want.offset + i)))) (marked acts (Told n i))) (eq-eqb n.number n.number refl)) ∙ mark
+
     either : (m : Streaming) → Among m (live acts) ⊎ (m ≡ n) → (i : ℕ) → i < m.want.len
         → unwrap_or (mark_if (n.number == m.number) (is_to_device n.want.dir && marked acts (Known n.want.buffer (n.want.offset + i)))) (marked acts (Told m i)) ≡ true
         → (shown x.per_page (Driver (Mapped n) ∷ acts) (iova_of m + i)).byte ≡ direct acts m.want.buffer (m.want.offset + i)
@@ -211,6 +215,7 @@ module _ (x : Setting) (small : IsAddressed x) (acts : List Act) (s : Sound x ac
         → ram x.per_page acts k i ≡ unwrap_or (option_and_then (λ m. daemon_writes acts (Node act) (address_for m i)) o) (direct acts k i)
     known k i None mark = d.known k i mark
     known k i (Some m) mark = never mark
+
     told : (m : Streaming) → Among m (live acts) → (i : ℕ) → i < m.want.len → (o : Option Streaming) → through acts (Node act) m.want.buffer (m.want.offset + i) ≡ o
         → (w : Option ℕ) → daemon_writes acts (Node act) (iova_of m + i) ≡ w → unwrap_or (told_after o w m) (marked acts (Told m i)) ≡ true
         → (shown x.per_page (Node act ∷ acts) (iova_of m + i)).byte ≡ direct (Node act ∷ acts) m.want.buffer (m.want.offset + i)
@@ -262,7 +267,7 @@ direct_law x h = record {
   known = λ small d acts at k i mark. (directs x small acts (moment_legal x h d acts at)).known k i mark;
   told = λ small d acts at m there i below mark. (directs x small acts (moment_legal x h d acts at)).told m there i below mark;
   loaded = λ small d at len failed bytes said m there i j below inside same mark.
-    loaded_byte x h d at len failed bytes said j inside ∙ ap (λ a. (shown x.per_page (acts_of x h d) a).byte) same
-    ∙ (directs x small (acts_of x h d) (own_legal x h d)).told m there i below mark;
+      loaded_byte x h d at len failed bytes said j inside ∙ ap (λ a. (shown x.per_page (acts_of x h d) a).byte) same
+      ∙ (directs x small (acts_of x h d) (own_legal x h d)).told m there i below mark;
   coherent = λ whole d acts at r there a here. region_store x whole acts (moment_legal x h d acts at) r there a here;
 }

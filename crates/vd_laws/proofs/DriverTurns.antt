@@ -1,9 +1,8 @@
 -- The driver's turns on buffers, mappings and regions are legal.
-use Rattle.std.proofs.Common.{◌≡◌, ℕ, ◌+◌, ◌*◌, ◌<◌, ◌≤◌, Bool, true, false, refl, arith, Option, None, Some, List, [], ◌∷◌, ◌++◌, ◌==◌, not, nat_lt, map, find, length, is_some}
+use Rattle.std.proofs.Common.{◌≡◌, ℕ, ◌+◌, ◌*◌, ◌≤◌, refl, arith, Option, None, Some, List, [], ◌∷◌, ◌==◌, not, nat_lt, find, length, is_some}
 use Rattle.std.specs.Option.{option_map_or}
 use Rattle.std.specs.List.{list_any}
 use Rattle.vd_num.specs.Number.{pages_of}
-use Rattle.vd_num.specs.declared.errno.Errno.{Errno}
 use Rattle.vd_num.specs.declared.errno.Errno.TheVariants.{Noent, Nospc, Inval, Busy}
 use Rattle.vd_model.specs.declared.memory.Want.{Want}
 use Rattle.vd_model.specs.declared.step.DriverStep.{DriverStep}

@@ -1,5 +1,5 @@
 -- What a load is answered.
-use Rattle.std.proofs.Common.{◌≡◌, ℕ, zero, suc, ◌+◌, ◌<◌, Bool, true, false, refl, ap, ◌∙◌, sym, arith, Option, None, Some, List, [], ◌∷◌, not}
+use Rattle.std.proofs.Common.{◌≡◌, ℕ, zero, suc, ◌+◌, ◌<◌, Bool, ap, ◌∙◌, sym, arith, Option, None, Some, List, [], ◌∷◌, not}
 use Rattle.std.specs.List.{slice_index}
 use Rattle.std.specs.Option.{option_map_or}
 use Rattle.vd_num.specs.declared.errno.Errno.{Errno}
@@ -11,13 +11,13 @@ use Rattle.vd_model.specs.declared.answer.Answer.TheVariants.{Done, Bus}
 use Rattle.vd_model.specs.declared.answer.Item.TheVariants.{Text}
 use Rattle.vd_model.specs.Setting.{Setting}
 use Rattle.vd_model.specs.Creation.{Creation}
-use Rattle.vd_model.specs.Acts.{Act, Node}
+use Rattle.vd_model.specs.Acts.{Node}
 use Rattle.vd_model.specs.Live.{is_open}
 use Rattle.vd_model.specs.Puts.{each_from, bus_bytes, shown}
 use Rattle.vd_model.specs.Turn.{refuse, refused, given, told, lift}
 use Rattle.vd_model.specs.AreaTurns.{first_bus}
 use Rattle.vd_model.specs.Deeds.{Seen, seen}
-use Rattle.vd_model.specs.History.{History, deeds_of, reply, dev_turn, device_turn}
+use Rattle.vd_model.specs.History.{History, deeds_of, reply, device_turn}
 use Rattle.vd_laws.specs.Runs.{acts_of}
 
 each_at : (f : ℕ → ℕ) (from len i : ℕ) → i < len → slice_index (each_from f from len) i ≡ f (from + i)

@@ -1,11 +1,11 @@
 -- The pages that mappings meet.
-use Rattle.std.proofs.Common.{◌≡◌, ℕ, ◌+◌, ◌*◌, ◌/◌, ◌<◌, ◌≤◌, Bool, true, false, refl, ap, subst, ◌∙◌, sym, arith, cond, List, [], ◌∷◌, ◌++◌, ◌==◌, ◌&&◌, ◌||◌, not, nat_lt, ◌⊎◌, inl, inr}
+use Rattle.std.proofs.Common.{◌≡◌, ℕ, ◌+◌, ◌*◌, ◌/◌, ◌<◌, ◌≤◌, Bool, true, false, refl, ap, subst, ◌∙◌, sym, arith, List, [], ◌∷◌, ◌==◌, ◌||◌, not, nat_lt, ◌⊎◌, inl, inr}
 use Rattle.std.proofs.lemmas.Bool.{lt-ltb, le-ltb, ltb-true, ltb-false, and_from, and_left, and_right}
 use Rattle.std.proofs.lemmas.Nat.{le-div}
 use Rattle.std.proofs.Math.Nat.{mul-div-le, lt-div-mul-add, mul_assoc, mul_comm, mul_left_comm, mul-le-mul_left}
 use Rattle.vd_num.specs.Number.{pages_of}
 use Rattle.vd_model.specs.Acts.{Act, Node, Driver, Streaming, Mapped, Unmapped, Registered, Deregistered}
-use Rattle.vd_model.specs.Live.{live, iova_of, maps_address, page_of, meets_page, in_use, is_present}
+use Rattle.vd_model.specs.Live.{live, iova_of, maps_address, page_of, meets_page, is_present}
 use Rattle.vd_laws.specs.Among.{Among}
 use Rattle.vd_laws.proofs.Lists.{pushed, filtered, any_true}
 use Rattle.vd_laws.proofs.Legal.{covers}
@@ -44,6 +44,7 @@ on_page g m a some h =
     (lt-ltb m.slot (g * page_of g a + g) (after (g * page_of g a) q)) where
       before : (n : ℕ) → 4096 * n ≤ a → n < m.slot + pages_of m.want.len
       before n p = let r = is_in (iova_of m) m.want.len a h in let high : a < 4096 * m.slot + m.want.len = r.1 in omega arith
+
       after : (n : ℕ) → a < 4096 * n + 4096 * g → m.slot < n + g
       after n q = let r = is_in (iova_of m) m.want.len a h in let low : 4096 * m.slot ≤ a = r.0 in omega arith
 

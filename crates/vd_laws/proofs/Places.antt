@@ -1,14 +1,14 @@
 -- A place that was found is free, and a mapping there can be made.
-use Rattle.std.proofs.Common.{◌≡◌, ℕ, ◌+◌, ◌<◌, ◌≤◌, Bool, true, false, refl, arith, Option, None, Some, cond, List, [], ◌∷◌, ◌==◌, ◌&&◌, ◌%◌, not, nat_le, nat_lt, length}
+use Rattle.std.proofs.Common.{◌≡◌, ℕ, ◌+◌, ◌<◌, ◌≤◌, Bool, true, false, refl, arith, None, Some, cond, List, [], ◌∷◌, ◌==◌, not, nat_le, length}
 use Rattle.std.specs.List.{list_any}
 use Rattle.std.proofs.lemmas.Bool.Decides.{nat_tests}
 use Rattle.std.proofs.lemmas.Bool.{and_parts, leb-true, not-true}
-use Rattle.vd_num.specs.Number.{pages_of, power_from}
+use Rattle.vd_num.specs.Number.{pages_of}
 use Rattle.vd_model.specs.declared.memory.Want.{Want}
 use Rattle.vd_model.specs.Setting.{Setting}
 use Rattle.vd_model.specs.Acts.{Act, Driver, Streaming, Buffer, Zeroed, Freed}
-use Rattle.vd_model.specs.Live.{buffers, maps, buffer_len, live, live_regions}
-use Rattle.vd_model.specs.Place.{Slots, is_place, place_of, meets, mapping_slots, region_slots, taken}
+use Rattle.vd_model.specs.Live.{buffers, maps, buffer_len, live}
+use Rattle.vd_model.specs.Place.{Slots, is_place, place_of, meets, mapping_slots, taken}
 use Rattle.vd_laws.specs.Among.{Among}
 use Rattle.vd_laws.proofs.Lists.{any_false, greatest_is, among_map, among_left}
 use Rattle.vd_laws.proofs.Legal.{covers, IsFresh}
@@ -49,7 +49,6 @@ place_free held n lo hi slot e =
 
 apart : (m l : Streaming) (slot : ℕ) → meets m.slot (pages_of m.want.len) (mapping_slots l) ≡ false → covers m slot ≡ true → covers l slot ≡ true → ⊥
 apart m l slot free c d = grind (arith, nat_tests)
-
 
 pub taken_held : (acts : List Act) (l : Streaming) → Among l (live acts) → Among (mapping_slots l) (taken acts)
 taken_held acts l h = among_left (mapping_slots l) _ _ (among_map mapping_slots l (live acts) h)

@@ -1,10 +1,10 @@
 -- The turns of the daemon and of the bus make acts of which no law needs a premise.
-use Rattle.std.proofs.Common.{◌≡◌, ℕ, ◌+◌, Bool, true, false, refl, ap, ◌∙◌, cond, Option, None, Some, Result, Ok, Err, List, [], ◌∷◌, ◌++◌, ◌&&◌, if◌then◌else◌}
+use Rattle.std.proofs.Common.{◌≡◌, ℕ, Bool, true, false, refl, Option, None, Some, List, [], ◌∷◌, ◌++◌, if◌then◌else◌}
 use Rattle.std.proofs.lemmas.Bool.{and_parts, and_from}
 use Rattle.std.specs.List.{list_all}
 use Rattle.std.specs.Option.{option_map_or}
 use Rattle.vd_num.specs.declared.errno.Errno.{Errno}
-use Rattle.vd_num.specs.declared.errno.Errno.TheVariants.{Noent, Io, Again, Inval}
+use Rattle.vd_num.specs.declared.errno.Errno.TheVariants.{Noent, Io, Again}
 use Rattle.vd_model.specs.declared.answer.Answer.TheVariants as answer
 use Rattle.vd_model.specs.declared.message.Body.{Body}
 use Rattle.vd_model.specs.declared.message.Body.TheVariants as body
@@ -14,24 +14,19 @@ use Rattle.vd_model.specs.declared.message.Message.{Message}
 use Rattle.vd_model.specs.declared.answer.Tag.TheVariants as tag
 use Rattle.vd_model.specs.declared.answer.Item.{Item}
 use Rattle.vd_model.specs.declared.answer.Item.TheVariants.{Word, Number}
-use Rattle.vd_model.specs.declared.parts.Part.{Part}
-use Rattle.vd_model.specs.declared.parts.Chain.{Chain}
-use Rattle.vd_model.specs.declared.queue.RingPlace.{RingPlace}
 use Rattle.vd_model.specs.declared.step.BusStep.{BusStep}
 use Rattle.vd_model.specs.declared.step.BusStep.TheVariants as bus
 use Rattle.vd_model.specs.declared.step.NodeStep.{NodeStep}
 use Rattle.vd_model.specs.declared.step.NodeStep.TheVariants as node
 use Rattle.vd_model.specs.Setting.{Setting}
 use Rattle.vd_model.specs.Creation.{Creation}
-use Rattle.vd_model.specs.Acts.{Act, Driver, Node, Bus, Message_act, State, Queue, Disk, Closed, Area_made, Registered, Daemon_put, Fetched, Finished, Ring_made, Chain_added, message_acts, state_acts}
+use Rattle.vd_model.specs.Acts.{Act, Driver, Node, Message_act, State, Queue, Closed, Area_made, Registered, Ring_made, Chain_added, message_acts}
 use Rattle.vd_model.specs.State.{Status_set, Kicks_taken, Cleared}
 use Rattle.vd_model.specs.Messages.{Took, Lost, Received, is_broken, told, next}
-use Rattle.vd_model.specs.Memory.{Memory}
 use Rattle.vd_model.specs.Live.{Registration, registered}
-use Rattle.vd_model.specs.Turn.{Turn, refuse, refused, given}
-use Rattle.vd_model.specs.BusTurns.{done_with, asks_reset, taken, take_turn, send_turn, reset_turn, needs_attachment, attached_turn, bus_turn}
-use Rattle.vd_model.specs.NodeTurns.{ended, received_as, write_turn, response_turn, body_items, plain_turn}
-use Rattle.vd_model.specs.Raw.{response_step}
+use Rattle.vd_model.specs.Turn.{Turn, refuse, refused}
+use Rattle.vd_model.specs.BusTurns.{done_with, asks_reset, taken, take_turn, send_turn, reset_turn, attached_turn, bus_turn}
+use Rattle.vd_model.specs.NodeTurns.{ended, received_as, response_turn, body_items, plain_turn}
 use Rattle.vd_laws.proofs.Legal.{Admits, Legal}
 
 -- no law needs a premise of the act, and it isn't a driver's

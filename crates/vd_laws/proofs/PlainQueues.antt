@@ -1,9 +1,8 @@
 -- The block daemon's turns make plain acts.
-use Rattle.std.proofs.Common.{◌≡◌, ℕ, ◌*◌, Bool, true, false, refl, arith, Option, None, Some, Result, Ok, Err, List, [], ◌∷◌, ◌++◌, ◌==◌, ◌||◌, nat_lt, drop, take, is_some, if◌then◌else◌}
+use Rattle.std.proofs.Common.{◌≡◌, ℕ, ◌*◌, Bool, true, false, refl, arith, Option, None, Some, Result, Ok, Err, List, [], ◌∷◌, ◌++◌, ◌==◌, ◌||◌, nat_lt, drop, take, if◌then◌else◌}
 use Rattle.std.specs.List.{list_all}
 use Rattle.std.specs.Option.{option_map_or}
 use Rattle.vd_num.specs.declared.errno.Errno.{Errno}
-use Rattle.vd_num.specs.declared.errno.Errno.TheVariants.{Noent, Inval}
 use Rattle.vd_model.specs.declared.answer.Answer.TheVariants as answer
 use Rattle.vd_model.specs.declared.parts.Part.{Part}
 use Rattle.vd_model.specs.declared.parts.Chain.{Chain}
@@ -13,13 +12,12 @@ use Rattle.vd_model.specs.Creation.{Creation}
 use Rattle.vd_model.specs.Acts.{Act, Node, Queue, Disk, Stored, Daemon_put, Fetched, Executed}
 use Rattle.vd_model.specs.Memory.{Memory, read}
 use Rattle.vd_model.specs.Trace.{Ending, whole, faulty, missing, start_of, ending_of}
-use Rattle.vd_model.specs.Queues.{Executed_as, in_hand, executed}
-use Rattle.vd_model.specs.Rings.{number16, available_index_at, available_slot_at, available_event_at, used_element_at, used_index_at, next16, minus16}
-use Rattle.vd_model.specs.Turn.{Turn, refuse, refused, given}
-use Rattle.vd_model.specs.BusTurns.{is_missing}
+use Rattle.vd_model.specs.Queues.{Executed_as}
+use Rattle.vd_model.specs.Rings.{number16, available_index_at, available_slot_at, available_event_at, used_element_at, used_index_at, next16}
+use Rattle.vd_model.specs.Turn.{Turn, refused}
 use Rattle.vd_model.specs.Raw.{little_bytes}
 use Rattle.vd_model.specs.Block as block
-use Rattle.vd_model.specs.DaemonTurns.{daemon_memory, queue_place, has_indirect, has_event_idx, chain_or, read_or, walk_turn, first_used, moved, readable_bytes, event_puts, event_or, fetched_turn, request_or, fetch_chain, fetch_at, ahead_or, fetch_from, fetch_turn, Hand, hand, stored, executed_turn, execute_hand, execute_turn, unwritable_or, spread, deciding_field, finish_puts, finished_turn, finish_hand, used_position, finish_turn}
+use Rattle.vd_model.specs.DaemonTurns.{daemon_memory, has_indirect, has_event_idx, chain_or, read_or, walk_turn, readable_bytes, event_puts, event_or, fetched_turn, request_or, fetch_chain, fetch_at, ahead_or, fetch_from, fetch_turn, Hand, stored, executed_turn, execute_turn, unwritable_or, spread, deciding_field, finish_puts, finished_turn, finish_hand, finish_turn}
 use Rattle.vd_laws.proofs.Plain.{is_plain, IsPlain, refuse_plain}
 
 read_plain : {X : Type 0} (r : Result X ℕ) (turn : X → Turn Act) → ((bytes : X) → IsPlain (turn bytes)) → IsPlain (read_or r turn)
@@ -109,10 +107,10 @@ spread_plain : (parts : List Part) (bytes : List ℕ) (acts : List Act) → list
 spread_plain [] bytes acts e = e
 spread_plain (part ∷ parts) bytes acts e = by part.writable
     (spread_plain parts (drop part.len bytes) (Node (Daemon_put part.at (take part.len bytes)) ∷ acts) e) (spread_plain parts bytes acts e) where
-  by : (b : Bool) → list_all is_plain (spread parts (drop part.len bytes) (Node (Daemon_put part.at (take part.len bytes)) ∷ acts)) ≡ true → list_all is_plain (spread parts bytes acts) ≡ true
-      → list_all is_plain (if b then spread parts (drop part.len bytes) (Node (Daemon_put part.at (take part.len bytes)) ∷ acts) else spread parts bytes acts) ≡ true
-  by true there other = there
-  by false there other = other
+      by : (b : Bool) → list_all is_plain (spread parts (drop part.len bytes) (Node (Daemon_put part.at (take part.len bytes)) ∷ acts)) ≡ true → list_all is_plain (spread parts bytes acts) ≡ true
+          → list_all is_plain (if b then spread parts (drop part.len bytes) (Node (Daemon_put part.at (take part.len bytes)) ∷ acts) else spread parts bytes acts) ≡ true
+      by true there other = there
+      by false there other = other
 
 finish_puts_plain : (place : RingPlace) (used : ℕ) (h : Hand) (end : Executed_as) → list_all is_plain (finish_puts place used h end) ≡ true
 finish_puts_plain place used h end = spread_plain h.parts (end.bytes ++ end.status ∷ []) [] refl

@@ -1,5 +1,5 @@
 -- What a poll tells of the next used element.
-use Rattle.std.proofs.Common.{◌≡◌, ℕ, ◌+◌, ◌%◌, Bool, true, false, refl, ap, ◌∙◌, sym, Option, None, Some, List, [], ◌∷◌, ◌==◌, not, nat_lt, find, length, eqb-true, if◌then◌else◌}
+use Rattle.std.proofs.Common.{◌≡◌, ℕ, ◌+◌, ◌%◌, Bool, true, false, refl, ◌∙◌, Option, None, Some, List, [], ◌∷◌, ◌==◌, not, nat_lt, find, length, eqb-true, if◌then◌else◌}
 use Rattle.std.specs.Option.{option_map_or}
 use Rattle.vd_num.specs.Field.{field_at}
 use Rattle.vd_num.specs.declared.errno.Errno.{Errno}
@@ -17,7 +17,7 @@ use Rattle.vd_model.specs.Live.{is_attached}
 use Rattle.vd_model.specs.Puts.{bus_bytes}
 use Rattle.vd_model.specs.Queues.{Ring, ring_of, reclaimed, published, published_out}
 use Rattle.vd_model.specs.Rings.{minus16, used_index_at, used_element_at}
-use Rattle.vd_model.specs.Turn.{Turn, refuse, refused, given}
+use Rattle.vd_model.specs.Turn.{refuse, refused, given}
 use Rattle.vd_model.specs.BusTurns.{is_missing}
 use Rattle.vd_model.specs.RingTurns.{number_at, used_event_puts, completed, reclaimed_turn, polled}
 use Rattle.vd_model.specs.Deeds.{Seen}
@@ -50,9 +50,9 @@ module _ (x : Setting) (done : List Act) (q h l : ℕ) (more : List Item) (place
   polled_tells used e = by (given (used == reclaimed done q % 65536) Again) (nat_lt (length (published_out done q)) (minus16 used (reclaimed done q % 65536))) e where
     by : (o : Option Errno) (b : Bool)
         → (refuse o (if b then record { answer = UsedAhead used (published done q % 65536); acts = [] }
-          else reclaimed_turn x done q place
-          (field_at 4 (bus_bytes x.per_page done (used_element_at place (reclaimed done q)) 8) 0)
-          (field_at 4 (bus_bytes x.per_page done (used_element_at place (reclaimed done q)) 8) 4))).answer ≡ Done (Word Head ∷ Number h ∷ Word Len ∷ Number l ∷ more)
+        else reclaimed_turn x done q place
+        (field_at 4 (bus_bytes x.per_page done (used_element_at place (reclaimed done q)) 8) 0)
+        (field_at 4 (bus_bytes x.per_page done (used_element_at place (reclaimed done q)) 8) 4))).answer ≡ Done (Word Head ∷ Number h ∷ Word Len ∷ Number l ∷ more)
         → Tells (field_at 4 (bus_bytes x.per_page done (used_element_at place (reclaimed done q)) 8) 0) (field_at 4 (bus_bytes x.per_page done (used_element_at place (reclaimed done q)) 8) 4) h l
     by (Some errno) b f = cc
     by None true f = cc
@@ -70,6 +70,7 @@ tells x s d q failed h l more e = by s.made e where
   on made None None (Some ring) f g =
       let t = polled_tells x s.acts q h l more ring.place (number_at x s.acts (used_index_at ring.place)) g in
       record { ring = ring; there = f; heads = t.heads; lengths = t.lengths }
+
   by : (o : Option Creation) → (option_map_or (λ made. queue_turn x made d s failed (queue.Poll q)) o (refused Nodev)).answer ≡ Done (Word Head ∷ Number h ∷ Word Len ∷ Number l ∷ more) → IsNextUsed x s.acts q h l
   by None f = cc
   by (Some made) f = on made (given (not (is_attached s.acts)) Nodev) (given (is_missing made q) Inval) (ring_of s.acts q) refl f

@@ -1,13 +1,13 @@
 -- The ends of requests are legal: each of their mappings is unmapped once.
-use Rattle.std.proofs.Common.{◌≡◌, ℕ, suc, zero, ◌+◌, ◌<◌, ◌≤◌, Bool, true, false, refl, ap, subst, ◌∙◌, sym, arith, Option, None, Some, cond, List, [], ◌∷◌, ◌++◌, ◌==◌, not, find, append_assoc, append-nil, eqb-true, ◌⊎◌, inl, inr}
+use Rattle.std.proofs.Common.{◌≡◌, ℕ, suc, zero, ◌<◌, refl, ap, subst, ◌∙◌, sym, arith, Option, None, Some, List, [], ◌∷◌, ◌++◌, ◌==◌, not, find, append_assoc, append-nil, eqb-true, ◌⊎◌, inl, inr}
 use Rattle.std.specs.Option.{option_map_or}
 use Rattle.std.proofs.lemmas.Bool.{ne_eqb}
 use Rattle.vd_model.specs.Setting.{Setting}
-use Rattle.vd_model.specs.Acts.{Act, Driver, Streaming, Coherent, Added, Request, Freed, Unmapped, Region_freed}
+use Rattle.vd_model.specs.Acts.{Act, Driver, Streaming, Coherent, Added, Request, Unmapped, Region_freed}
 use Rattle.vd_model.specs.Live.{live}
 use Rattle.vd_model.specs.RingTurns.{unmapped, unmaps, frees, request_ended, by_head, requests_ended, region_freed}
 use Rattle.vd_laws.specs.Among.{Among}
-use Rattle.vd_laws.proofs.Lists.{pushed, filtered, filter_in, found, found_passes}
+use Rattle.vd_laws.proofs.Lists.{pushed, filter_in, found, found_passes}
 use Rattle.vd_laws.proofs.Legal.{maps_of, Distinct, Legal}
 use Rattle.vd_laws.proofs.Chains.{AreOwn}
 

@@ -1,5 +1,5 @@
 -- A driver writes a ring past the bounce memory.
-use Rattle.std.proofs.Common.{◌≡◌, ℕ, suc, zero, ◌+◌, ◌*◌, ◌/◌, ◌%◌, ◌^◌, ◌<◌, ◌≤◌, Bool, true, false, refl, ap, subst, ◌∙◌, sym, arith, Option, None, Some, cond, List, [], ◌∷◌, ◌++◌, ◌==◌, ◌&&◌, nat_le, if◌then◌else◌}
+use Rattle.std.proofs.Common.{◌≡◌, ℕ, suc, zero, ◌+◌, ◌*◌, ◌%◌, ◌^◌, ◌<◌, ◌≤◌, Bool, true, false, refl, ◌∙◌, arith, Option, None, Some, cond, List, [], ◌∷◌, ◌++◌, ◌==◌, nat_le, if◌then◌else◌}
 use Rattle.std.proofs.lemmas.Bool.{and_parts, eqb-true}
 use Rattle.std.proofs.lemmas.Nat.{mod_below}
 use Rattle.std.proofs.Math.Nat.{mod-eq_of_lt}
@@ -8,12 +8,12 @@ use Rattle.vd_model.specs.declared.queue.RingPlace.{RingPlace}
 use Rattle.vd_model.specs.declared.parts.Part.{Part}
 use Rattle.vd_model.specs.Setting.{Setting, bounce_size}
 use Rattle.vd_model.specs.Acts.{Act, Driver, Streaming, Driver_put}
-use Rattle.vd_model.specs.Live.{maps, live, buffers}
+use Rattle.vd_model.specs.Live.{maps, live}
 use Rattle.vd_model.specs.Queues.{out}
 use Rattle.vd_model.specs.Rings.{ring_address, available_slot_at, available_index_at, used_event_at}
 use Rattle.vd_model.specs.DaemonTurns.{has_event_idx}
 use Rattle.vd_model.specs.Raw.{little_bytes}
-use Rattle.vd_model.specs.RingTurns.{ring_bytes, device_offset, driver_offset, ring_at, is_ring_size, descriptor_puts, descriptor_bytes, flags_of, slot_put, table_puts, last_after, first_of, used_event_puts, Asked, parts_count, request_puts}
+use Rattle.vd_model.specs.RingTurns.{ring_bytes, driver_offset, ring_at, is_ring_size, descriptor_puts, table_puts, last_after, used_event_puts, Asked, parts_count, request_puts}
 use Rattle.vd_laws.specs.Runs.{IsAddressed}
 use Rattle.vd_laws.proofs.Legal.{IsHigh, Legal}
 

@@ -1,18 +1,15 @@
 -- The driver's turns on rings are legal.
-use Rattle.std.proofs.Common.{◌≡◌, ℕ, ◌+◌, ◌*◌, ◌%◌, ◌<◌, ◌≤◌, Bool, true, false, refl, ap, subst, ◌∙◌, sym, Option, None, Some, List, [], ◌∷◌, ◌++◌, ◌==◌, not, nat_lt, take, find, length, is_some, append_assoc, if◌then◌else◌}
+use Rattle.std.proofs.Common.{◌≡◌, ℕ, ◌+◌, ◌%◌, Bool, true, false, refl, subst, sym, Option, None, Some, List, [], ◌∷◌, ◌++◌, ◌==◌, not, nat_lt, take, find, length, is_some, append_assoc, if◌then◌else◌}
 use Rattle.std.specs.Option.{option_map_or}
 use Rattle.vd_num.specs.Number.{pages_of}
 use Rattle.vd_num.specs.Field.{field_at}
 use Rattle.vd_num.specs.declared.errno.Errno.TheVariants.{Noent, Again, Busy, Exist, Inval, Nospc}
-use Rattle.vd_model.specs.declared.answer.Tag.TheVariants as tag
-use Rattle.vd_model.specs.declared.answer.Item.TheVariants.{Word, Number}
 use Rattle.vd_model.specs.declared.answer.Answer.TheVariants as answer
-use Rattle.vd_model.specs.declared.queue.RingPlace.{RingPlace}
 use Rattle.vd_model.specs.declared.parts.Part.{Part}
 use Rattle.vd_model.specs.declared.step.SubmitForm.{SubmitForm}
 use Rattle.vd_model.specs.Setting.{Setting}
 use Rattle.vd_model.specs.Creation.{Creation}
-use Rattle.vd_model.specs.Acts.{Act, Queue, Streaming, Added, Request, Ring_dropped, Chain_reclaimed, state_acts}
+use Rattle.vd_model.specs.Acts.{Act, Queue, Added, Request, Chain_reclaimed, state_acts}
 use Rattle.vd_model.specs.State.{is_ready}
 use Rattle.vd_model.specs.Live.{live, live_regions}
 use Rattle.vd_model.specs.Place.{place_of, taken}
@@ -20,12 +17,12 @@ use Rattle.vd_model.specs.Puts.{bus_bytes}
 use Rattle.vd_model.specs.Rings.{minus16, used_index_at, used_element_at}
 use Rattle.vd_model.specs.Queues.{Ring, ring_of, reclaimed, published, out, published_out, free}
 use Rattle.vd_model.specs.Turn.{Turn, refuse, refused, given}
-use Rattle.vd_model.specs.BusTurns.{done_with, is_missing}
+use Rattle.vd_model.specs.BusTurns.{is_missing}
 use Rattle.vd_model.specs.DaemonTurns.{has_indirect}
-use Rattle.vd_model.specs.RingTurns.{ring_bytes, ring_at, ring_made, is_ring_size, ring_turn, on_ring, request_ended, by_head, requests_ended, region_freed, unring_turn, first_of, descriptor_puts, slot_put, chain_acts, is_out_of_order, is_full, add_turn, publish_items, publish_acts, publish_turn, asked_by, submit_asked, submit_turn, number_at, used_event_puts, completed, reclaimed_turn, polled, poll_turn}
+use Rattle.vd_model.specs.RingTurns.{ring_bytes, ring_made, is_ring_size, ring_turn, on_ring, request_ended, by_head, requests_ended, region_freed, unring_turn, descriptor_puts, is_out_of_order, is_full, add_turn, publish_turn, asked_by, submit_turn, number_at, used_event_puts, completed, reclaimed_turn, polled, poll_turn}
 use Rattle.vd_laws.specs.Among.{Among}
 use Rattle.vd_laws.proofs.Lists.{found}
-use Rattle.vd_laws.proofs.Legal.{IsHigh, maps_of, Legal}
+use Rattle.vd_laws.proofs.Legal.{IsHigh, Legal}
 use Rattle.vd_laws.proofs.Sound.{sound}
 use Rattle.vd_laws.proofs.Chains.{chained}
 use Rattle.vd_laws.proofs.Places.{place_free}
@@ -79,9 +76,10 @@ module _ (x : Setting) (made : Creation) (done : List Act) (legal : Legal x done
   add_legal parts = on_ring_legal _ (λ ring high.
       refuse_turn x done legal (given (is_out_of_order parts) Inval) _ (λ e.
       refuse_turn x done legal (given (is_full ring.place.size (out done q) (length parts)) Nospc) _ (λ f.
-      let ds = take (length parts) (free ring.place.size (out done q)) in
-      (record { distinct = tt; made = λ n i. absurd i; apart = λ c h n i j. absurd j },
-      (slot_high x ring.place high _, puts_legal x (descriptor_puts ring.place parts ds) done (descriptors_put x ring.place high parts ds) legal)))))
+      let ds = take (length parts) (free ring.place.size (out done q)) in (
+        record { distinct = tt; made = λ n i. absurd i; apart = λ c h n i j. absurd j },
+        (slot_high x ring.place high _, puts_legal x (descriptor_puts ring.place parts ds) done (descriptors_put x ring.place high parts ds) legal),
+      ))))
 
   pub publish_legal : IsLegalTurn x done (publish_turn x made done q)
   publish_legal = on_ring_legal _ (λ ring high. (tt, (index_high x ring.place high, legal)))

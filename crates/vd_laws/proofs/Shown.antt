@@ -1,5 +1,5 @@
 -- What an address has after an act.
-use Rattle.std.proofs.Common.{◌≡◌, ℕ, ◌+◌, ◌-◌, ◌*◌, ◌/◌, ◌<◌, ◌≤◌, Bool, true, false, refl, ap, subst, ◌∙◌, sym, arith, Option, None, Some, cond, List, ◌∷◌, ◌&&◌, not, nat_le, nat_lt, unwrap_or}
+use Rattle.std.proofs.Common.{◌≡◌, ℕ, ◌+◌, ◌-◌, ◌/◌, ◌<◌, ◌≤◌, Bool, true, false, refl, ap, subst, ◌∙◌, sym, arith, Option, None, Some, cond, List, ◌∷◌, ◌&&◌, not, nat_lt, unwrap_or}
 use Rattle.std.specs.Option.{option_map, option_and_then}
 use Rattle.std.specs.List.{slice_get}
 use Rattle.std.proofs.lemmas.Bool.Decides.{nat_tests}
@@ -8,13 +8,13 @@ use Rattle.vd_num.specs.Number.{pages_of, is_within}
 use Rattle.vd_model.specs.declared.memory.Origin.TheVariants.{Daemon, Handed}
 use Rattle.vd_model.specs.Setting.{Setting, bounce_size}
 use Rattle.vd_model.specs.Acts.{Act, DriverAct, Node, Driver, Streaming, Daemon_put, Area_made, Area_put, Registered, Deregistered, Mapped, Synced_device, Region_made, Driver_put}
-use Rattle.vd_model.specs.Live.{Registration, live, registered, in_use, iova_of, maps_address, region_covers, page_of, meets_page, is_present}
-use Rattle.vd_model.specs.Puts.{Cell, Iova, Area, Put, byte_in, zero_if, put_if, put_or, or_put, handed, handed_if, is_to_device, home, is_moved, address_of, handed_back, driver_put, address_put, address_put_if, put_at, last_put, shown}
+use Rattle.vd_model.specs.Live.{Registration, live, registered, in_use, maps_address, page_of, meets_page, is_present}
+use Rattle.vd_model.specs.Puts.{Cell, Iova, Area, Put, byte_in, zero_if, put_if, put_or, or_put, handed_if, is_to_device, home, is_moved, address_of, handed_back, driver_put, address_put, address_put_if, put_at, last_put, shown}
 use Rattle.vd_model.specs.Direct.{area_written, daemon_writes}
 use Rattle.vd_laws.specs.Among.{Among}
 use Rattle.vd_laws.specs.Runs.{IsAddressed}
 use Rattle.vd_laws.proofs.Lists.{any_true}
-use Rattle.vd_laws.proofs.Legal.{covers, IsFresh, Admits}
+use Rattle.vd_laws.proofs.Legal.{IsFresh, Admits}
 use Rattle.vd_laws.proofs.Sound.{IsOurs, Sound}
 use Rattle.vd_laws.proofs.Ranges.{is_in, before_range}
 use Rattle.vd_laws.proofs.Pages.{on_slot, on_page, no_slots, live_present}

@@ -42,6 +42,7 @@ mapped_sound x acts m f s = record {
   one l n (inl hl) (inr e) slot cl cn = absurd (f.apart l hl slot (subst (λ k. covers k slot ≡ true) e cn) cl)
   one l n (inr e) (inl hn) slot cl cn = absurd (f.apart n hn slot (subst (λ k. covers k slot ≡ true) e cl) cn)
   one l n (inr d) (inr e) slot cl cn = d ∙ sym e
+
   same : (l n : Streaming) → Among l (live acts) ⊎ (l ≡ m) → Among n (live acts) ⊎ (n ≡ m) → l.number ≡ n.number → l ≡ n
   same l n (inl hl) (inl hn) e = s.same l n hl hn e
   same l n (inl hl) (inr d) e = let low = s.numbers l hl in let is : n.number ≡ maps acts = ap (λ k. k.number) d ∙ f.number in absurd (omega arith)
@@ -89,15 +90,26 @@ next_sound x (Node Deregistered) acts h s = record { numbers = s.numbers; buffer
 next_sound x (Queue (Ring_made q place region)) acts h s = made_sound x acts q place region h.0 s
 next_sound x (Queue (Ring_dropped q)) acts h s = dropped_sound x acts q s
 next_sound x _ acts h s = record {
-  numbers = s.numbers; buffers_there = s.buffers_there; fits = s.fits; one = s.one; same = s.same;
-  regions_high = s.regions_high; rings_high = s.rings_high; ours = s.ours;
+  numbers = s.numbers;
+  buffers_there = s.buffers_there;
+  fits = s.fits;
+  one = s.one;
+  same = s.same;
+  regions_high = s.regions_high;
+  rings_high = s.rings_high;
+  ours = s.ours;
 }
 
 pub sound : (x : Setting) (acts : List Act) → Legal x acts → Sound x acts
 sound x [] h = record {
-  numbers = λ m k. absurd k; buffers_there = λ m k. absurd k; fits = λ m k. absurd k;
-  one = λ m n k l slot c d. absurd k; same = λ m n k l e. absurd k; regions_high = λ r k. absurd k;
-  rings_high = λ q r e. cc; ours = tt;
+  numbers = λ m k. absurd k;
+  buffers_there = λ m k. absurd k;
+  fits = λ m k. absurd k;
+  one = λ m n k l slot c d. absurd k;
+  same = λ m n k l e. absurd k;
+  regions_high = λ r k. absurd k;
+  rings_high = λ q r e. cc;
+  ours = tt;
 }
 sound x (act ∷ acts) h = next_sound x act acts h (sound x acts h.1)
 

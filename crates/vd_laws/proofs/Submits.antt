@@ -1,28 +1,27 @@
 -- A submitted request is legal: its buffers, then its mappings, then the writes of its ring.
-use Rattle.std.proofs.Common.{◌≡◌, ℕ, suc, zero, ◌+◌, ◌<◌, ◌≤◌, Bool, true, false, refl, ap, subst, ◌∙◌, sym, arith, Option, None, Some, cond, List, [], ◌∷◌, ◌++◌, ◌==◌, map, take, length, nat_lt, append_assoc, if◌then◌else◌, ◌⊎◌, inl, inr}
+use Rattle.std.proofs.Common.{◌≡◌, ℕ, ◌+◌, ◌<◌, ◌≤◌, Bool, true, false, refl, ap, subst, ◌∙◌, sym, arith, Option, None, Some, List, [], ◌∷◌, ◌++◌, map, take, nat_lt, append_assoc, if◌then◌else◌, ◌⊎◌, inl, inr}
 use Rattle.std.specs.Option.{option_map, option_map_or}
 use Rattle.vd_num.specs.Number.{pages_of}
-use Rattle.vd_num.specs.declared.errno.Errno.{Errno}
 use Rattle.vd_num.specs.declared.errno.Errno.TheVariants.{Noent, Nospc}
 use Rattle.vd_model.specs.declared.memory.Dir.TheVariants.{From}
 use Rattle.vd_model.specs.declared.memory.Want.{Want}
 use Rattle.vd_model.specs.declared.parts.Part.{Part}
 use Rattle.vd_model.specs.Setting.{Setting}
 use Rattle.vd_model.specs.Creation.{Creation}
-use Rattle.vd_model.specs.Acts.{Act, Driver, Queue, Streaming, Added, Request, Buffer, Mapped, Chain_added}
+use Rattle.vd_model.specs.Acts.{Act, Driver, Queue, Streaming, Added, Mapped, Chain_added}
 use Rattle.vd_model.specs.Live.{buffers, buffered, maps, buffer_len, live}
 use Rattle.vd_model.specs.Place.{Slots, place_of, taken, mapping_slots}
 use Rattle.vd_model.specs.Queues.{Ring, out, added, free}
 use Rattle.vd_model.specs.Turn.{Turn, refuse, refused, given}
 use Rattle.vd_model.specs.DriverTurns.{buffer_limit}
-use Rattle.vd_model.specs.RingTurns.{Asked, want_refusal, made_len, needed, is_full, part_wants, table_wants, given_want, placed_at, placed, part_of, parts_count, buffer_acts, table_bytes, header_bytes, map_acts, writable_of, slot_put, first_of, request_puts, request_acts, publish_acts, submitted, submit_asked}
+use Rattle.vd_model.specs.RingTurns.{Asked, want_refusal, made_len, needed, is_full, part_wants, table_wants, given_want, placed_at, placed, part_of, parts_count, buffer_acts, map_acts, writable_of, slot_put, first_of, request_puts, request_acts, submitted, submit_asked}
 use Rattle.vd_laws.specs.Among.{Among}
 use Rattle.vd_laws.proofs.Lists.{pushed, among_left, push_right}
-use Rattle.vd_laws.proofs.Legal.{IsFresh, IsHigh, IsNewChain, maps_of, Distinct, Legal}
-use Rattle.vd_laws.proofs.Chains.{Chained, chained}
+use Rattle.vd_laws.proofs.Legal.{IsHigh, IsNewChain, maps_of, Distinct, Legal}
+use Rattle.vd_laws.proofs.Chains.{chained}
 use Rattle.vd_laws.proofs.Places.{there_made, taken_held, fresh}
 use Rattle.vd_laws.proofs.RingPuts.{ArePuts, puts_legal, puts_maps, puts_out, request_put, slot_high, index_high}
-use Rattle.vd_laws.proofs.Refusals.{IsLegalTurn, refuse_turn, there_turn}
+use Rattle.vd_laws.proofs.Refusals.{refuse_turn, there_turn}
 
 -- ---- the mappings
 
@@ -68,10 +67,10 @@ next_made x want wants held number slot f later acts ms (Some rest) i j all is m
     let m : Streaming = record { number = number; slot = slot; want = want } in
     let same : m ∷ rest ≡ ms = cc in
     let more = later (Driver (Mapped m) ∷ acts) rest i
-        (λ l k. elim (pushed l m (live acts) k) [ inl g ↦ among_left (mapping_slots l) held (mapping_slots m ∷ []) (all l g) | inr e ↦ subst (λ l. Among (mapping_slots l) (held ++ mapping_slots m ∷ [])) (sym e) (push_right (mapping_slots m) held) ])
-        (let e : number + 1 ≡ maps acts + 1 = omega arith in e)
-        (λ w k. made w (inr k))
-        (fresh x acts held all number is want (made want (inl refl)) slot f, h) in
+    (λ l k. elim (pushed l m (live acts) k) [ inl g ↦ among_left (mapping_slots l) held (mapping_slots m ∷ []) (all l g) | inr e ↦ subst (λ l. Among (mapping_slots l) (held ++ mapping_slots m ∷ [])) (sym e) (push_right (mapping_slots m) held) ])
+    (let e : number + 1 ≡ maps acts + 1 = omega arith in e)
+    (λ w k. made w (inr k))
+    (fresh x acts held all number is want (made want (inl refl)) slot f, h) in
     subst (AreMade x acts number) same (one_more x acts number m rest refl is more)
 
 pub placed_made : (x : Setting) (wants : List Want) (held : List Slots) (number : ℕ) → Makes x wants held number
@@ -116,7 +115,10 @@ part_made n bound a low there w (inr h) = by (split_among w (given_want a.want) 
 ready : (x : Setting) (done : List Act) (a : Asked) (indirect : Bool) (parts : List Part) → Legal x done → ((w : Want) → a.want ≡ Some w → w.buffer < buffers done)
     → AreReady x done (buffer_acts indirect a parts ++ done) a indirect
 ready x done a true parts h there = record {
-  legal = (tt, (tt, h)); same_live = refl; same_maps = refl; same_out = λ q. refl;
+  legal = (tt, (tt, h));
+  same_live = refl;
+  same_maps = refl;
+  same_out = λ q. refl;
   wants = λ w k. by w (split_among w (part_wants (buffers done) a) _ k);
 } where
   by : (w : Want) → Among w (part_wants (buffers done) a) ⊎ Among w (table_wants true (buffers done) a) → w.buffer < buffers done + 1 + 1
@@ -124,7 +126,10 @@ ready x done a true parts h there = record {
   by w (inr (inl e)) = let f : w.buffer ≡ buffers done + 1 = ap (λ w. w.buffer) e in omega arith
   by w (inr (inr k)) = absurd k
 ready x done a false parts h there = record {
-  legal = (tt, h); same_live = refl; same_maps = refl; same_out = λ q. refl;
+  legal = (tt, h);
+  same_live = refl;
+  same_maps = refl;
+  same_out = λ q. refl;
   wants = λ w k. by w (split_among w (part_wants (buffers done) a) _ k);
 } where
   by : (w : Want) → Among w (part_wants (buffers done) a) ⊎ Among w (table_wants false (buffers done) a) → w.buffer < buffers done + 1
@@ -141,10 +146,10 @@ module _ (x : Setting) (made : Creation) (done : List Act) (legal : Legal x done
     distinct = subst Distinct (sym same) a.distinct;
     made = λ k j. subst (λ b. k < b) (sym (puts_maps x puts (map_acts ms ++ first) p)) (a.high k (subst (Among k) same j));
     apart = λ c h k i j. (
-      let there : Among c (out done q) = subst (Among c) (puts_out x puts (map_acts ms ++ first) q p ∙ (a.same q ∙ f)) h in
-      let below = ((chained x done legal).own q).below c there k i in
-      let above = a.low k (subst (Among k) same j) in
-      absurd (omega arith));
+        let there : Among c (out done q) = subst (Among c) (puts_out x puts (map_acts ms ++ first) q p ∙ (a.same q ∙ f)) h in
+        let below = ((chained x done legal).own q).below c there k i in
+        let above = a.low k (subst (Among k) same j) in
+        absurd (omega arith));
   }
 
   request_legal : (indirect : Bool) (a : Asked) (ms : List Streaming) (parts : List Part) (ds : List ℕ) → ((w : Want) → a.want ≡ Some w → w.buffer < buffers done)
@@ -154,7 +159,7 @@ module _ (x : Setting) (made : Creation) (done : List Act) (legal : Legal x done
       let first = buffer_acts indirect a parts ++ done in
       let r = ready x done a indirect parts legal there in
       let m = placed_made x (part_wants (buffers done) a ++ table_wants indirect (buffers done) a) (taken done) (maps done) first ms e
-          (λ l h. taken_held done l (subst (Among l) r.same_live h)) (sym r.same_maps) r.wants r.legal in
+      (λ l h. taken_held done l (subst (Among l) r.same_live h)) (sym r.same_maps) r.wants r.legal in
       let puts = slot_put ring.place (added done q) (first_of ds) ∷ request_puts indirect ring.place a ms parts ds in
       let p : ArePuts x puts = (slot_high x ring.place high (added done q), request_put x ring.place high indirect a ms parts ds) in
       let chain : Added = record {
@@ -164,7 +169,7 @@ module _ (x : Setting) (made : Creation) (done : List Act) (legal : Legal x done
       } in
       let rest = request_puts indirect ring.place a ms parts ds in
       let is : rest ++ (map_acts ms ++ first) ≡ rest ++ map_acts ms ++ buffer_acts indirect a parts ++ done =
-          sym (append_assoc rest (map_acts ms) first) ∙ sym (append_assoc (rest ++ map_acts ms) (buffer_acts indirect a parts) done) in
+      sym (append_assoc rest (map_acts ms) first) ∙ sym (append_assoc (rest ++ map_acts ms) (buffer_acts indirect a parts) done) in
       subst (λ l. Legal x (Queue (Chain_added q chain) ∷ slot_put ring.place (added done q) (first_of ds) ∷ l)) is
       (chain_new (maps done) ms first r.same_live (r.same_out q) refl m puts p chain refl, puts_legal x puts (map_acts ms ++ first) p m.legal)
 

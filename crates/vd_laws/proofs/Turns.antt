@@ -1,6 +1,5 @@
 -- Every line's turn is legal, and so are the acts of a history.
-use Rattle.std.proofs.Common.{◌≡◌, ℕ, ◌+◌, Bool, true, false, refl, ap, subst, ◌∙◌, sym, Option, None, Some, cond, List, [], ◌∷◌, ◌++◌, ◌&&◌, map, not, if◌then◌else◌}
-use Rattle.std.specs.Option.{option_map_or}
+use Rattle.std.proofs.Common.{◌≡◌, ℕ, Bool, true, false, refl, ap, subst, ◌∙◌, sym, Option, None, Some, cond, List, [], ◌∷◌, ◌++◌, ◌&&◌, map, not, if◌then◌else◌}
 use Rattle.std.specs.Str.{bytes_eq}
 use Rattle.std.proofs.lemmas.Slice.Eq.{bytes_eq-Decides}
 use Rattle.vd_num.specs.declared.errno.Errno.{Errno}
@@ -19,7 +18,7 @@ use Rattle.vd_model.specs.Setting.{Setting}
 use Rattle.vd_model.specs.Creation.{Creation}
 use Rattle.vd_model.specs.Acts.{Act, Node, Driver, Bus, State, Opened, Attached}
 use Rattle.vd_model.specs.State.{Max_set}
-use Rattle.vd_model.specs.Turn.{Turn, refuse, refused, given, lift}
+use Rattle.vd_model.specs.Turn.{Turn, given, lift}
 use Rattle.vd_model.specs.Raw.{Ioctl, Plain_node, Plain_area, Find_entry, Find_info, Tell_features, ioctl_of, control_step}
 use Rattle.vd_model.specs.NodeTurns.{opens, plain_turn, ioctl_turn, open_node_turn, node_turn}
 use Rattle.vd_model.specs.Live.{is_open, is_attached}
@@ -28,7 +27,7 @@ use Rattle.vd_model.specs.BusTurns.{bus_turn}
 use Rattle.vd_model.specs.DriverTurns.{driver_turn}
 use Rattle.vd_model.specs.DaemonTurns.{walk_turn, fetch_turn, execute_turn, finish_turn}
 use Rattle.vd_model.specs.RingTurns.{ring_turn, unring_turn, add_turn, publish_turn, submit_turn, poll_turn}
-use Rattle.vd_model.specs.Deeds.{Deed, Made, On, Passed, own, Seen, seen}
+use Rattle.vd_model.specs.Deeds.{Deed, Made, On, own, Seen, seen}
 use Rattle.vd_model.specs.ControlTurns.{Outcome, refuse_all, dev_made, plain_outcome, raw_outcome, control_outcome}
 use Rattle.vd_model.specs.History.{History, deeds_of, outcome, on, needs_session, needs_bus, is_kept, free_turn, disk_of, dev_turn, queue_turn, device_turn, device_queue_turn}
 use Rattle.vd_laws.specs.Runs.{acts_of}

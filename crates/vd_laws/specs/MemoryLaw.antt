@@ -1,5 +1,5 @@
 -- What changes a driver's memory, and coherent memory.
-use Rattle.std.specs.Prelude.{ℕ, ◌≤◌, List, [], ◌∷◌, length, Bool, true, false, IsTrue, ◌==◌, ◌&&◌, ◌≡◌}
+use Rattle.std.specs.Prelude.{ℕ, ◌≤◌, List, ◌∷◌, length, Bool, true, false, IsTrue, ◌==◌, ◌&&◌, ◌≡◌}
 use Rattle.vd_num.specs.Number.{is_within}
 use Rattle.vd_model.specs.declared.step.Step.{Step}
 use Rattle.vd_model.specs.declared.step.Step.TheVariants.{Device, Queue}
@@ -43,15 +43,15 @@ may_change_coherent _ = false
 pub record MemoryLaw (x : Setting) (h : History) : Type 0 where
   -- a daemon's next line, on any device, changes no byte of a buffer
   pub daemons : (d : List ℕ) (step : Step) (failed : Bool) → IsTrue (is_daemons step)
-    → (k i : ℕ) → ram x.per_page (acts_of x (record { step = step; failed = failed } ∷ h) d) k i ≡ ram x.per_page (acts_of x h d) k i
+      → (k i : ℕ) → ram x.per_page (acts_of x (record { step = step; failed = failed } ∷ h) d) k i ≡ ram x.per_page (acts_of x h d) k i
   -- a byte of a buffer changes only by acts that may change it
   pub others : (d : List ℕ) (act : Act) (acts : List Act) → IsMoment x h d (act ∷ acts)
-    → (k i : ℕ) → may_change acts act k i ≡ false → ram x.per_page (act ∷ acts) k i ≡ ram x.per_page acts k i
+      → (k i : ℕ) → may_change acts act k i ≡ false → ram x.per_page (act ∷ acts) k i ≡ ram x.per_page acts k i
   -- an unmap brings the byte that stood at the mapping's address, and so does a sync
   pub unmapped : (d : List ℕ) (m : Streaming) (acts : List Act) → IsMoment x h d (Driver (Unmapped m) ∷ acts)
-    → (k i : ℕ) → IsTrue (brings_back m k i) → ram x.per_page (Driver (Unmapped m) ∷ acts) k i ≡ (shown x.per_page acts (address_for m i)).byte
+      → (k i : ℕ) → IsTrue (brings_back m k i) → ram x.per_page (Driver (Unmapped m) ∷ acts) k i ≡ (shown x.per_page acts (address_for m i)).byte
   pub synced : (d : List ℕ) (m : Streaming) (acts : List Act) → IsMoment x h d (Driver (Synced_cpu m) ∷ acts)
-    → (k i : ℕ) → IsTrue (brings_back m k i) → ram x.per_page (Driver (Synced_cpu m) ∷ acts) k i ≡ (shown x.per_page acts (address_for m i)).byte
+      → (k i : ℕ) → IsTrue (brings_back m k i) → ram x.per_page (Driver (Synced_cpu m) ∷ acts) k i ≡ (shown x.per_page acts (address_for m i)).byte
   -- past bounce memory of whole pages, bytes change only by acts that may change coherent ones
   pub coherent : IsWhole x → (d : List ℕ) (act : Act) (acts : List Act) → IsMoment x h d (act ∷ acts)
-    → (a : ℕ) → bounce_size x ≤ a → may_change_coherent act ≡ false → shown x.per_page (act ∷ acts) a ≡ shown x.per_page acts a
+      → (a : ℕ) → bounce_size x ≤ a → may_change_coherent act ≡ false → shown x.per_page (act ∷ acts) a ≡ shown x.per_page acts a

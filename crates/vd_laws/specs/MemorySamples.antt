@@ -1,14 +1,14 @@
 -- Short lists of acts of one device, for instances of the laws on memory, used bytes and the machine without copies.
 use Rattle.std.specs.Prelude.{ℕ, List, [], ◌∷◌, false}
 use Rattle.vd_model.specs.declared.memory.Dir.{Dir}
-use Rattle.vd_model.specs.declared.memory.Dir.TheVariants.{To, From, Both}
+use Rattle.vd_model.specs.declared.memory.Dir.TheVariants.{Both}
 use Rattle.vd_model.specs.declared.step.Step.{Step}
 use Rattle.vd_model.specs.declared.step.Step.TheVariants.{Control, Device}
 use Rattle.vd_model.specs.declared.step.DevStep.TheVariants as line
 use Rattle.vd_model.specs.declared.step.ControlStep.TheVariants as control
 use Rattle.vd_model.specs.declared.step.DriverStep.TheVariants as driver
 use Rattle.vd_model.specs.Setting.{Setting}
-use Rattle.vd_model.specs.Acts.{Act, Node, Driver, Streaming, Coherent, Daemon_put, Area_made, Registered, Buffer, Poked, Mapped, Region_made, Driver_put}
+use Rattle.vd_model.specs.Acts.{Act, Node, Driver, Streaming, Daemon_put, Area_made, Registered, Buffer, Poked, Mapped, Region_made, Driver_put}
 use Rattle.vd_model.specs.History.{Entry, History}
 
 -- the two bytes of buffer 0 are mapped at address 0xf000

@@ -36,9 +36,9 @@ pub record IsNextUsed (x : Setting) (acts : List Act) (q head len : ℕ) : Type 
 pub record UsedBytesLaw (x : Setting) (h : History) : Type 0 where
   -- right after the unmap of a mapping that brings bytes back, each byte that a daemon wrote is the last such write
   pub brought : IsAddressed x → (d : List ℕ) (m : Streaming) (acts : List Act) → IsMoment x h d (Driver (Unmapped m) ∷ acts)
-    → IsTrue (is_from_device m.want.dir) → (i : ℕ) → i < m.want.len → (b : ℕ) → last_write acts m i ≡ Some b
-    → ram x.per_page (Driver (Unmapped m) ∷ acts) m.want.buffer (m.want.offset + i) ≡ b
+      → IsTrue (is_from_device m.want.dir) → (i : ℕ) → i < m.want.len → (b : ℕ) → last_write acts m i ≡ Some b
+      → ram x.per_page (Driver (Unmapped m) ∷ acts) m.want.buffer (m.want.offset + i) ≡ b
   -- a poll tells what the next used element has
   pub polled : (d : List ℕ) (q : ℕ) (failed : Bool) (head len : ℕ) (more : List Item)
-    → reply x h (Queue d (queue.Poll q)) failed ≡ Done (Word Head ∷ Number head ∷ Word Len ∷ Number len ∷ more)
-    → IsNextUsed x (acts_of x h d) q head len
+      → reply x h (Queue d (queue.Poll q)) failed ≡ Done (Word Head ∷ Number head ∷ Word Len ∷ Number len ∷ more)
+      → IsNextUsed x (acts_of x h d) q head len
