@@ -24,3 +24,4 @@ pub mod Polls
 pub mod Brought
 pub mod Directs
 pub mod Loads
+pub mod Mapped

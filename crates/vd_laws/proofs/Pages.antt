@@ -71,7 +71,7 @@ past_pages g n a m fits high = by (nat_lt 0 g) refl where
       let none : g ≡ 0 = (let f = ltb-false 0 g e in omega arith) in
       subst (λ g. meets_page g (page_of g a) m ≡ false) (sym none) (no_slots (page_of 0 a) m)
 
-or_true : (b : Bool) → (b || true) ≡ true
+pub or_true : (b : Bool) → (b || true) ≡ true
 or_true true = refl
 or_true false = refl
 

@@ -4,3 +4,4 @@ pub mod MemoryLaw
 pub mod UsedBytesLaw
 pub mod DirectLaw
 pub mod MemorySamples
+pub mod Presence

@@ -7,8 +7,10 @@
 
 mod direct;
 mod memory;
+mod presence;
 mod used;
 
 pub use direct::{direct_transfer, instances_of_direct};
 pub use memory::{driver_memory, instances_of_memory};
+pub use presence::present_pages;
 pub use used::{instances_of_used_bytes, used_bytes};
