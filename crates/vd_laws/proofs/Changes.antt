@@ -44,6 +44,8 @@ pub memory_law : (x : Setting) (h : History) → MemoryLaw x h
 memory_law x h = record {
   daemons = λ d step failed e k i. daemons_ram x h d step failed e k i;
   others = λ d act acts m k i e. unchanged x.per_page acts k i act e;
+  unmaps = λ d m acts at. (moment_legal x h d (Driver (Unmapped m) ∷ acts) at).0;
+  syncs = λ d m acts at. (moment_legal x h d (Driver (Synced_cpu m) ∷ acts) at).0;
   unmapped = λ d m acts at k i e. unmap_brings x.per_page acts k i m e;
   synced = λ d m acts at k i e. sync_brings x.per_page acts k i m e;
   coherent = λ whole d act acts m a high e. coherent_kept x whole acts a high act (moment_legal x h d (act ∷ acts) m) e;

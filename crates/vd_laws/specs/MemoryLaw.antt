@@ -7,10 +7,11 @@ use Rattle.vd_model.specs.declared.step.DevStep.TheVariants as line
 use Rattle.vd_model.specs.declared.step.QueueStep.TheVariants as queue
 use Rattle.vd_model.specs.Setting.{Setting, bounce_size}
 use Rattle.vd_model.specs.Acts.{Act, Streaming, Node, Driver, Daemon_put, Buffer, Zeroed, Poked, Unmapped, Synced_cpu, Region_made, Driver_put}
-use Rattle.vd_model.specs.Live.{buffers}
-use Rattle.vd_model.specs.Puts.{ram, shown}
+use Rattle.vd_model.specs.Live.{buffers, live}
+use Rattle.vd_model.specs.Puts.{is_from_device, ram, shown}
 use Rattle.vd_model.specs.Direct.{brings_back, address_for}
 use Rattle.vd_model.specs.History.{History}
+use Rattle.vd_laws.specs.Among.{Among}
 use Rattle.vd_laws.specs.Runs.{acts_of, IsMoment, IsWhole}
 
 -- the line is a daemon's: of the node, of the memory that it sees, or of the block daemon
@@ -47,6 +48,9 @@ pub record MemoryLaw (x : Setting) (h : History) : Type 0 where
   -- a byte of a buffer changes only by acts that may change it
   pub others : (d : List ℕ) (act : Act) (acts : List Act) → IsMoment x h d (act ∷ acts)
       → (k i : ℕ) → may_change acts act k i ≡ false → ram x.per_page (act ∷ acts) k i ≡ ram x.per_page acts k i
+  -- an unmap, and a sync to the driver, is of a live mapping
+  pub unmaps : (d : List ℕ) (m : Streaming) (acts : List Act) → IsMoment x h d (Driver (Unmapped m) ∷ acts) → Among m (live acts)
+  pub syncs : (d : List ℕ) (m : Streaming) (acts : List Act) → IsMoment x h d (Driver (Synced_cpu m) ∷ acts) → Among m (live acts) × IsTrue (is_from_device m.want.dir)
   -- an unmap brings the byte that stood at the mapping's address, and so does a sync
   pub unmapped : (d : List ℕ) (m : Streaming) (acts : List Act) → IsMoment x h d (Driver (Unmapped m) ∷ acts)
       → (k i : ℕ) → IsTrue (brings_back m k i) → ram x.per_page (Driver (Unmapped m) ∷ acts) k i ≡ (shown x.per_page acts (address_for m i)).byte
