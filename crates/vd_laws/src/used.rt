@@ -1,0 +1,28 @@
+//! What comes back from a daemon.
+
+ghost use Rattle.std.specs.Prelude.{◌≡◌, ℕ, [], ◌∷◌, Some, None};
+ghost use Rattle.vd_model.specs.declared.memory.Dir.TheVariants.{From, Both};
+ghost use Rattle.vd_model.specs.Acts.{Node, Driver, Area_put, Unmapped, Synced_device};
+ghost use Rattle.vd_model.specs.Puts.{ram};
+ghost use Rattle.vd_laws.specs.UsedBytesLaw.{last_write};
+ghost use Rattle.vd_laws.specs.MemorySamples.{two, stored, kept};
+ghost use Rattle.vd_model.specs.Setting.{Setting};
+ghost use Rattle.vd_model.specs.History.{History};
+ghost use Rattle.vd_laws.specs.UsedBytesLaw.{UsedBytesLaw};
+
+/// The bytes that a daemon wrote last are the buffer's after an unmap, and a poll tells the length
+/// that the ring has.
+pub fn used_bytes()
+    ensures { (x : Setting) (h : History) → UsedBytesLaw x h }
+{}
+
+/// Worked instances of the law on used bytes.
+pub fn instances_of_used_bytes()
+    ensures stored { last_write (stored From) (two From) 1 ≡ Some 9 }
+    ensures stored_back { ram 1 (Driver (Unmapped (two From)) ∷ stored From) 0 1 ≡ 9 }
+    ensures other_byte { last_write (stored From) (two From) 0 ≡ None }
+    ensures synced { last_write (Driver (Synced_device (two Both)) ∷ stored Both) (two Both) 1 ≡ None }
+    ensures in_the_area { last_write (Node (Area_put 0x1f001 (6 ∷ [])) ∷ kept Both) (two Both) 1 ≡ Some 6 }
+    ensures area_back { ram 1 (Driver (Unmapped (two Both)) ∷ Node (Area_put 0x1f001 (6 ∷ [])) ∷ kept Both) 0 1 ≡ 6 }
+    ensures large_page { ram 16 (Driver (Unmapped (two Both)) ∷ Node (Area_put 0x1f001 (6 ∷ [])) ∷ kept Both) 0 1 ≡ 6 }
+{}
