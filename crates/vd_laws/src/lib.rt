@@ -1,0 +1,6 @@
+//! The laws of the history machine.
+#![tactic(auto)]
+
+mod reading;
+
+pub use reading::reads;
