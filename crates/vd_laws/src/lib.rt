@@ -1,4 +1,8 @@
-//! The laws of the history machine.
+//! The laws of the history machine: what holds after every list of steps. Each is the contract of a
+//! function that does nothing.
+//!
+//! It stands on the numbers and the model alone, and no code stands under it: the laws are about the
+//! model's definitions, and the engine hands them on for the run of a script.
 #![tactic(auto)]
 
 mod reading;
