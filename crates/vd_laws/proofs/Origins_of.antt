@@ -1,5 +1,6 @@
 -- Where each byte came from.
-use Rattle.std.proofs.Common.{◌≡◌, ℕ, ◌+◌, ◌-◌, ◌*◌, ◌/◌, ◌≤◌, Bool, true, false, refl, ap, subst, ◌∙◌, sym, arith, Option, None, Some, cond, List, [], ◌∷◌, ◌&&◌, not, nat_le, nat_lt, true≢false}
+use Rattle.std.proofs.Common.{◌≡◌, ℕ, zero, suc, ◌+◌, ◌-◌, ◌*◌, ◌/◌, ◌≤◌, Bool, true, false, refl, ap, subst, ◌∙◌, sym, arith, Option, None, Some, cond, List, [], ◌∷◌, ◌&&◌, not, nat_le, nat_lt, true≢false, ◌⊎◌, inl, inr}
+use Rattle.std.specs.List.{slice_get}
 use Rattle.std.specs.Option.{option_map, option_and_then}
 use Rattle.std.proofs.lemmas.Bool.{and_parts, leb-true}
 use Rattle.vd_num.specs.Number.{is_within}
@@ -8,7 +9,8 @@ use Rattle.vd_model.specs.declared.memory.Origin.TheVariants.{Zero, Daemon, Hand
 use Rattle.vd_model.specs.Acts.{Act, Node, Driver, Streaming, Daemon_put, Area_made, Area_put, Registered, Deregistered, Mapped, Synced_device, Region_made, Driver_put}
 use Rattle.vd_model.specs.Live.{Registration, registered, in_use, page_of, meets_page, is_present, region_covers, maps_address}
 use Rattle.vd_model.specs.Puts.{Cell, Iova, Area, Ram, Put, byte_in, text_at, zero_if, is_to_device, home, is_moved, address_of, put_if, handed, handed_if, or_put, handed_back, address_put, address_put_if, iova_put, area_put, put_at, put_or, last_put, shown}
-use Rattle.vd_laws.specs.Origins.{has_registration, IsDaemonWrite, Hands, SomeAct, ComesFrom, Comes}
+use Rattle.vd_laws.specs.Among.{Among}
+use Rattle.vd_laws.specs.Origins.{has_registration, Writes, IsWritten, IsCopied, Hands, ComesFrom, Comes, IsReadable}
 
 -- a sync to the device is of a mapping that carries bytes there
 abbrev pub Fits : Act → Type 0
@@ -41,7 +43,7 @@ standing_base (_ ∷ acts) = standing_base acts
 -- the address of a cell
 IsAt : Option ℕ → Cell → ℕ → Type 0
 IsAt o (Iova a) at = at ≡ a
-IsAt o (Area p) at = (base : ℕ) → o ≡ Some base → p ≡ base + at
+IsAt o (Area p) at = (base a : ℕ) → o ≡ Some base → p ≡ base + a → at ≡ a
 IsAt o (Ram k i) at = Unit {0}
 
 -- what stands in a cell came from there
@@ -59,8 +61,8 @@ same_base _ acts e = refl
 
 -- ---- a byte that stays, or moves from cell to cell
 
-some_later : {P : Act → Type 0} (act : Act) (acts : List Act) → SomeAct acts P → SomeAct (act ∷ acts) P
-some_later act acts c = record { later = act ∷ c.later; act = c.act; earlier = c.earlier; split = ap (λ l. act ∷ l) c.split; passes = c.passes }
+written_later : (act : Act) (acts : List Act) (byte : ℕ) → IsWritten acts byte → IsWritten (act ∷ acts) byte
+written_later act acts byte w = (w.0, inr w.1, w.2)
 
 no_registration : (act : Act) (later : List Act) → has_registration (act ∷ later) ≡ false → (has_registration (act ∷ []) ≡ false) × (has_registration later ≡ false)
 no_registration (Node (Registered base size)) later e = absurd (true≢false e)
@@ -69,22 +71,17 @@ no_registration _ later e = (refl, e)
 carried : (g : ℕ) (act : Act) (acts : List Act) (P Q : ℕ → Type 0) (byte : ℕ) (origin : Origin)
     → ((at : ℕ) → has_registration (act ∷ []) ≡ false → P at → Q at) → ComesFrom g acts P byte origin → ComesFrom g (act ∷ acts) Q byte origin
 carried g act acts P Q byte Zero f c = c
-carried g act acts P Q byte Daemon f c = some_later act acts c
-carried g act acts P Q byte (Handed None) f c = some_later act acts c
-carried g act acts P Q byte (Handed (Some n)) f c = record {
-  later = act ∷ c.later; act = c.act; earlier = c.earlier; mapping = c.mapping; at = c.at; split = ap (λ l. act ∷ l) c.split;
-  hands = c.hands; number = c.number; to_device = c.to_device; within = c.within; was = c.was;
-  asked = λ none. let p = no_registration act c.later none in f c.at p.0 (c.asked p.1);
+carried g act acts P Q byte Daemon f c = written_later act acts byte c
+carried g act acts P Q byte (Handed mapping) f c = record {
+  later = act ∷ c.later; act = c.act; earlier = c.earlier; at = c.at; split = ap (λ l. act ∷ l) c.split; hands = c.hands;
+  stays = λ none. let p = no_registration act c.later none in f c.at p.0 (c.stays p.1);
 }
 
 weaker : (g : ℕ) (acts : List Act) (P Q : ℕ → Type 0) (byte : ℕ) (origin : Origin) → ((at : ℕ) → P at → Q at) → ComesFrom g acts P byte origin → ComesFrom g acts Q byte origin
 weaker g acts P Q byte Zero f c = c
 weaker g acts P Q byte Daemon f c = c
-weaker g acts P Q byte (Handed None) f c = c
-weaker g acts P Q byte (Handed (Some n)) f c = record {
-  later = c.later; act = c.act; earlier = c.earlier; mapping = c.mapping; at = c.at; split = c.split;
-  hands = c.hands; number = c.number; to_device = c.to_device; within = c.within; was = c.was; asked = λ e. f c.at (c.asked e);
-}
+weaker g acts P Q byte (Handed mapping) f c =
+    record { later = c.later; act = c.act; earlier = c.earlier; at = c.at; split = c.split; hands = c.hands; stays = λ e. f c.at (c.stays e) }
 
 stays_from : (g : ℕ) (act : Act) (acts : List Act) (cell : Cell) (put : Put) → From g acts cell put → From g (act ∷ acts) cell put
 unfolding From
@@ -130,16 +127,24 @@ unfolding Each
 put_or_each None before cell P h was = was
 put_or_each (Some put) before cell P h was = h
 
-module _ (g : ℕ) (acts : List Act) where
-  -- a mapping hands a byte now
-  handing : (act : Act) (m : Streaming) (a : ℕ) (Q : ℕ → Type 0) → Hands m act → is_to_device m.want.dir ≡ true → maps_address m a ≡ true → Q a
-      → ComesFrom g (act ∷ acts) Q (handed (last_put g acts) m a).byte (handed (last_put g acts) m a).origin
-  handing act m a Q hands to here q = record {
-    later = []; act = act; earlier = acts; mapping = m; at = a; split = refl; hands = hands; number = refl; to_device = to; within = here; was = refl; asked = λ e. q;
-  }
+got_among : (bytes : List ℕ) (i b : ℕ) → slice_get bytes i ≡ Some b → Among b bytes
+got_among [] i b e = cc
+got_among (c ∷ bytes) zero b e = let same : c ≡ b = cc in inl (sym same)
+got_among (c ∷ bytes) (suc i) b e = inr (got_among bytes i b e)
 
-  now : {P : Act → Type 0} (act : Act) → P act → SomeAct (act ∷ acts) P
-  now act h = record { later = []; act = act; earlier = acts; split = refl; passes = h }
+byte_among : (bytes : List ℕ) (at a b : ℕ) → byte_in bytes at a ≡ Some b → Among b bytes
+byte_among bytes at a b e = by (nat_le at a) e where
+  by : (c : Bool) → cond c (slice_get bytes (a - at)) None ≡ Some b → Among b bytes
+  by true f = got_among bytes (a - at) b f
+  by false f = cc
+
+module _ (g : ℕ) (acts : List Act) where
+  -- an act hands a byte now
+  handing : (act : Act) (mapping : Option ℕ) (byte a : ℕ) (Q : ℕ → Type 0) → Hands g acts mapping byte a act → Q a → ComesFrom g (act ∷ acts) Q byte (Handed mapping)
+  handing act mapping byte a Q hands q = record { later = []; act = act; earlier = acts; at = a; split = refl; hands = hands; stays = λ e. q }
+
+  copied : (m : Streaming) (a : ℕ) → is_to_device m.want.dir ≡ true → maps_address m a ≡ true → IsCopied g acts m m.number (handed (last_put g acts) m a).byte a
+  copied m a to here = record { number = refl; to_device = to; within = here; was = refl }
 
   address_each : (act : Act) (a : ℕ) (Q : ℕ → Type 0) → Fits act → Q a → Each (address_put g (last_put g acts) acts act a) (λ put. ComesFrom g (act ∷ acts) Q put.byte put.origin)
   unfolding Each
@@ -147,12 +152,12 @@ module _ (g : ℕ) (acts : List Act) where
       or_each (handed_if (is_to_device m.want.dir && maps_address m a) (last_put g acts) m a) (zero_if (meets_page g (page_of g a) m && not (is_present g acts (page_of g a))))
       (λ put. ComesFrom g (Driver (Mapped m) ∷ acts) Q put.byte put.origin)
       (handed_each (is_to_device m.want.dir && maps_address m a) (last_put g acts) m a (λ put. ComesFrom g (Driver (Mapped m) ∷ acts) Q put.byte put.origin)
-      (λ e. let p = and_parts (is_to_device m.want.dir) (maps_address m a) e in handing (Driver (Mapped m)) m a Q refl p.0 p.1 q))
+      (λ e. let p = and_parts (is_to_device m.want.dir) (maps_address m a) e in handing (Driver (Mapped m)) (Some m.number) (handed (last_put g acts) m a).byte a Q (copied m a p.0 p.1) q))
       (zero_each (meets_page g (page_of g a) m && not (is_present g acts (page_of g a))) (λ put. ComesFrom g (Driver (Mapped m) ∷ acts) Q put.byte put.origin) (λ f. refl))
-  address_each (Driver (Synced_device m)) a Q h q = handed_each (maps_address m a) (last_put g acts) m a (λ put. ComesFrom g (Driver (Synced_device m) ∷ acts) Q put.byte put.origin) (λ e. handing (Driver (Synced_device m)) m a Q refl h e q)
+  address_each (Driver (Synced_device m)) a Q h q = handed_each (maps_address m a) (last_put g acts) m a (λ put. ComesFrom g (Driver (Synced_device m) ∷ acts) Q put.byte put.origin) (λ e. handing (Driver (Synced_device m)) (Some m.number) (handed (last_put g acts) m a).byte a Q (copied m a h e) q)
   address_each (Driver (Region_made r)) a Q h q = zero_each (region_covers r a) (λ put. ComesFrom g (Driver (Region_made r) ∷ acts) Q put.byte put.origin) (λ f. refl)
-  address_each (Driver (Driver_put at bytes)) a Q h q = text_each bytes at a (Handed None) (λ put. ComesFrom g (Driver (Driver_put at bytes) ∷ acts) Q put.byte put.origin) (λ b e. now (Driver (Driver_put at bytes)) (a, e))
-  address_each (Node (Daemon_put at bytes)) a Q h q = text_each bytes at a Daemon (λ put. ComesFrom g (Node (Daemon_put at bytes) ∷ acts) Q put.byte put.origin) (λ b e. now (Node (Daemon_put at bytes)) (a, e))
+  address_each (Driver (Driver_put at bytes)) a Q h q = text_each bytes at a (Handed None) (λ put. ComesFrom g (Driver (Driver_put at bytes) ∷ acts) Q put.byte put.origin) (λ b e. handing (Driver (Driver_put at bytes)) None b a Q e q)
+  address_each (Node (Daemon_put at bytes)) a Q h q = text_each bytes at a Daemon (λ put. ComesFrom g (Node (Daemon_put at bytes) ∷ acts) Q put.byte put.origin) (λ b e. (Node (Daemon_put at bytes), inl refl, byte_among bytes at a b e))
   address_each _ a Q h q = tt
 
   -- a put by address, unless its cell is in the area
@@ -169,7 +174,7 @@ module _ (g : ℕ) (acts : List Act) where
     by None base = tt
     by (Some r) base = put_each_if (nat_lt a r.size && in_use g acts (page_of g a)) (last_put g acts) (Area (r.base + a)) (From g (Node Deregistered ∷ acts) (Iova a)) (λ e.
         carried g (Node Deregistered) acts (IsAt (last_base acts) (Area (r.base + a))) (IsAt (last_base acts) (Iova a)) (last_put g acts (Area (r.base + a))).byte (last_put g acts (Area (r.base + a))).origin
-        (λ at none is. let same : r.base + a ≡ r.base + at = is r.base base in omega arith) (was (Area (r.base + a))))
+        (λ at none is. is r.base a base refl) (was (Area (r.base + a))))
   iova_each act a h was = unmoved_each (is_moved (registered acts) a) act a h
 
   -- an act that puts by address, at its cell in the area
@@ -182,13 +187,13 @@ module _ (g : ℕ) (acts : List Act) where
     by false e = tt
     by true e =
         let low : r.base ≤ o = leb-true r.base o (and_parts (nat_le r.base o) (nat_lt o (r.base + r.size)) e).0 in
-        address_each act (o - r.base) (IsAt (last_base (act ∷ acts)) (Area o)) h (λ base_is f. let same_base : Some r.base ≡ Some base_is = sym base ∙ sym same ∙ f in let k : r.base ≡ base_is = cc in omega arith)
+        address_each act (o - r.base) (IsAt (last_base (act ∷ acts)) (Area o)) h (λ base_is a f e. let same_base : Some r.base ≡ Some base_is = sym base ∙ sym same ∙ f in let k : r.base ≡ base_is = cc in omega arith)
 
   -- what an act puts into the area
   area_each : (act : Act) (o : ℕ) → Fits act → ((cell : Cell) → From g acts cell (last_put g acts cell)) → Each (area_put g (last_put g acts) acts act o) (From g (act ∷ acts) (Area o))
   unfolding Each From last_base
   area_each (Node (Area_made n)) o h was = zero_each (nat_lt o n) (From g (Node (Area_made n) ∷ acts) (Area o)) (λ e. refl)
-  area_each (Node (Area_put at bytes)) o h was = text_each bytes at o Daemon (From g (Node (Area_put at bytes) ∷ acts) (Area o)) (λ b e. now (Node (Area_put at bytes)) (o, e))
+  area_each (Node (Area_put at bytes)) o h was = text_each bytes at o Daemon (From g (Node (Area_put at bytes) ∷ acts) (Area o)) (λ b e. (Node (Area_put at bytes), inl refl, byte_among bytes at o b e))
   area_each (Node (Registered base size)) o h was = put_each_if (is_within base size o && in_use g acts (page_of g (o - base))) (last_put g acts) (Iova (o - base)) (From g (Node (Registered base size) ∷ acts) (Area o))
     (λ e. carried g (Node (Registered base size)) acts (IsAt (last_base acts) (Iova (o - base))) (IsAt (Some base) (Area o)) (last_put g acts (Iova (o - base))).byte (last_put g acts (Iova (o - base))).origin
     (λ at none is. absurd (true≢false none)) (was (Iova (o - base))))
@@ -221,5 +226,12 @@ comes g acts fit a = by (registered acts) (standing_base acts) where
   by (Some r) base = either (nat_lt a r.size) where
     either : (b : Bool) → Comes g acts a (last_put g acts (cond b (Area (r.base + a)) (Iova a)))
     either true = weaker g acts (IsAt (last_base acts) (Area (r.base + a))) (λ at. at ≡ a) (last_put g acts (Area (r.base + a))).byte (last_put g acts (Area (r.base + a))).origin
-        (λ at is. let same : r.base + a ≡ r.base + at = is r.base base in omega arith) (comes_from g acts fit (Area (r.base + a)))
+        (λ at is. is r.base a base refl) (comes_from g acts fit (Area (r.base + a)))
     either false = comes_from g acts fit (Iova a)
+
+pub readable : (g : ℕ) (acts : List Act) (a : ℕ) (put : Put) → Comes g acts a put → IsReadable g acts a put.byte
+readable g acts a put c = by put.origin c where
+  by : (origin : Origin) → ComesFrom g acts (λ at. at ≡ a) put.byte origin → IsReadable g acts a put.byte
+  by Zero c = inl c
+  by Daemon c = inr (inl c)
+  by (Handed mapping) c = inr (inr (mapping, c))
