@@ -1,2 +1,3 @@
 pub mod Legal
 pub mod Origins_of
+pub mod Reads_of

@@ -1,3 +1,5 @@
 pub mod Among
 pub mod Runs
 pub mod Origins
+pub mod Alike
+pub mod Reads
