@@ -1,23 +1,30 @@
 -- What the block daemon's lines look at.
-use Rattle.std.proofs.Common.{◌≡◌, ℕ, ◌+◌, ◌-◌, ◌<◌, ◌≤◌, refl, ap, subst, ◌∙◌, sym, arith, Bool, true, false, cond, nat_lt, Option, None, Some, is_some, unwrap_or, List, [], ◌∷◌, ◌++◌, take, drop, Result, Ok, Err}
+use Rattle.std.proofs.Common.{◌≡◌, ℕ, ◌+◌, ◌-◌, ◌<◌, ◌≤◌, refl, ap, subst, ◌∙◌, sym, arith, Bool, true, false, cond, not, nat_lt, Option, None, Some, is_some, unwrap_or, List, [], ◌∷◌, ◌++◌, take, drop, Result, Ok, Err}
 use Rattle.std.proofs.Math.Path.{fun_ext}
-use Rattle.std.specs.Option.{option_map, option_and_then}
+use Rattle.std.specs.Option.{option_map, option_map_or, option_and_then}
 use Rattle.std.proofs.lemmas.Bool.{ltb-true}
 use Rattle.std.proofs.lemmas.Bool.Decides.{nat_tests}
 use Rattle.vd_num.specs.Number.{is_within}
+use Rattle.vd_num.specs.declared.errno.Errno.TheVariants.{Noent, Badf, Inval, Nodev}
 use Rattle.vd_model.specs.declared.memory.Origin.TheVariants.{Daemon}
 use Rattle.vd_model.specs.declared.queue.RingPlace.{RingPlace}
 use Rattle.vd_model.specs.declared.parts.Part.{Part}
+use Rattle.vd_model.specs.declared.step.QueueStep.TheVariants as queue
 use Rattle.vd_model.specs.Setting.{Setting}
 use Rattle.vd_model.specs.Creation.{Creation}
 use Rattle.vd_model.specs.Acts.{Act, Node, Daemon_put, state_acts}
-use Rattle.vd_model.specs.Live.{Registration, registered}
+use Rattle.vd_model.specs.State.{info_of}
+use Rattle.vd_model.specs.Live.{Registration, registered, is_open}
 use Rattle.vd_model.specs.Puts.{Iova, Area, byte_in, text_at, home, is_moved, address_of, address_put_if, put_at, put_or, last_put, shown}
 use Rattle.vd_model.specs.Memory.{Memory}
+use Rattle.vd_model.specs.Deeds.{Seen}
+use Rattle.vd_model.specs.Turn.{Turn, refused, refuse, given}
+use Rattle.vd_model.specs.BusTurns.{is_missing}
 use Rattle.vd_model.specs.AreaTurns.{is_accessible}
-use Rattle.vd_model.specs.Queues.{Executed_as, fetches, finishes, in_hand}
-use Rattle.vd_model.specs.DaemonTurns.{Hand, daemon_memory, walk_turn, fetch_chain, fetch_turn, first_used, moved, used_position, hand, spread, finish_puts, finish_hand}
-use Rattle.vd_laws.specs.Alike.{request_in_hand}
+use Rattle.vd_model.specs.Queues.{Executed_as, fetches, finishes, in_hand, executed}
+use Rattle.vd_model.specs.DaemonTurns.{Hand, daemon_memory, walk_turn, fetch_chain, fetch_turn, first_used, moved, used_position, hand, place_of, queue_place, spread, finish_puts, finish_hand, finish_turn}
+use Rattle.vd_model.specs.History.{needs_session, device_queue_turn}
+use Rattle.vd_laws.specs.Alike.{LooksAlike, KeepsAlike, request_in_hand}
 
 walk_alike : (x : Setting) (made : Creation) (s t : List Act) (q head : ℕ) → state_acts s ≡ state_acts t → daemon_memory x s ≡ daemon_memory x t → walk_turn x made s q head ≡ walk_turn x made t q head
 walk_alike x made s t q head state memory = rw (state, memory) refl
@@ -111,3 +118,51 @@ finished_alike : (x : Setting) (s t : List Act) (q : ℕ) (place : RingPlace) (u
 finished_alike x s t q place used h end state memory = rw (stored, memory, state) refl where
   stored : daemon_memory x (finish_puts place used h end ++ s) ≡ daemon_memory x (finish_puts place used h end ++ t)
   stored = fun_ext (λ a. stores_alike x (finish_puts place used h end) s t (finish_stores place used h end) (λ b. ap (λ m. m b) memory) a)
+
+-- a finish of a request
+abbrev finish_of : Setting → List Act → ℕ → Hand → Turn Act
+finish_of x acts q h = option_map_or (finish_hand x acts q (queue_place acts q) (used_position x acts q) h) (executed acts q) (refused Noent)
+
+finish_in_hand : (x : Setting) (made : Creation) (acts : List Act) (q : ℕ) → finish_turn x made acts q ≡ refuse (given (is_missing made q) Inval) (option_map_or (finish_of x acts q) (request_in_hand x acts q) (refused Noent))
+finish_in_hand x made acts q = ap (refuse (given (is_missing made q) Inval)) (by (in_hand acts q)) where
+  by : (o : Option (List Act)) → option_map_or (λ earlier. finish_of x acts q (hand x earlier q)) o (refused Noent) ≡ option_map_or (finish_of x acts q) (option_map (λ earlier. hand x earlier q) o) (refused Noent)
+  by None = refl
+  by (Some earlier) = refl
+
+finish_of_alike : (x : Setting) (s t : List Act) (q : ℕ) (h : Hand) → state_acts s ≡ state_acts t → daemon_memory x s ≡ daemon_memory x t → used_position x s q ≡ used_position x t q → executed s q ≡ executed t q
+    → finish_of x s q h ≡ finish_of x t q h
+finish_of_alike x s t q h state memory used ended =
+    ap (λ o. option_map_or (finish_hand x s q (queue_place s q) (used_position x s q) h) o (refused Noent)) ended
+    ∙ ap (λ f. option_map_or f (executed t q) (refused Noent)) (fun_ext (λ end.
+    ap (λ st. finish_hand x s q (place_of (info_of st q)) (used_position x s q) h end) state
+    ∙ ap (λ n. finish_hand x s q (queue_place t q) n h end) used
+    ∙ finished_alike x s t q (queue_place t q) (used_position x t q) h end state memory))
+
+finish_alike : (x : Setting) (made : Creation) (s t : List Act) (q : ℕ) → state_acts s ≡ state_acts t → daemon_memory x s ≡ daemon_memory x t → KeepsAlike x s t q → finish_turn x made s q ≡ finish_turn x made t q
+finish_alike x made s t q state memory keeps =
+    finish_in_hand x made s q
+    ∙ ap (λ o. refuse (given (is_missing made q) Inval) (option_map_or (finish_of x s q) o (refused Noent))) keeps.request
+    ∙ ap (λ f. refuse (given (is_missing made q) Inval) (option_map_or f (request_in_hand x t q) (refused Noent)))
+    (fun_ext (λ h. finish_of_alike x s t q h state memory (used_alike x s t q keeps.first keeps.finished) keeps.ended))
+    ∙ sym (finish_in_hand x made t q)
+
+-- ---- the lines
+
+-- a line of a daemon with a session, on a device
+on_session : (s t : Seen) (T U : Creation → Turn Act) → s.made ≡ t.made → is_open s.acts ≡ is_open t.acts → ((made : Creation) → T made ≡ U made)
+    → option_map_or (λ made. needs_session s.acts (T made)) s.made (refused Nodev) ≡ option_map_or (λ made. needs_session t.acts (U made)) t.made (refused Nodev)
+on_session s t T U made opened same =
+    ap (λ o. option_map_or (λ made. needs_session s.acts (T made)) o (refused Nodev)) made
+    ∙ ap (λ f. option_map_or f t.made (refused Nodev)) (fun_ext (λ m. ap (λ b. refuse (given (not b) Badf) (T m)) opened ∙ ap (needs_session t.acts) (same m)))
+
+pub walks : (x : Setting) (name : List ℕ) (s t : Seen) → LooksAlike x s t → (q head : ℕ) (failed : Bool) → device_queue_turn x name s failed (queue.Walk q head) ≡ device_queue_turn x name t failed (queue.Walk q head)
+walks x name s t looks q head failed = on_session s t (λ made. walk_turn x made s.acts q head) (λ made. walk_turn x made t.acts q head) looks.made looks.opened
+    (λ made. walk_alike x made s.acts t.acts q head looks.state (fun_ext looks.memory))
+
+pub fetches_alike : (x : Setting) (name : List ℕ) (s t : Seen) (q : ℕ) → LooksAlike x s t → KeepsAlike x s.acts t.acts q → (failed : Bool) → device_queue_turn x name s failed (queue.Fetch q) ≡ device_queue_turn x name t failed (queue.Fetch q)
+fetches_alike x name s t q looks keeps failed = on_session s t (λ made. fetch_turn x made s.acts q) (λ made. fetch_turn x made t.acts q) looks.made looks.opened
+    (λ made. fetch_alike x made s.acts t.acts q looks.state (fun_ext looks.memory) keeps.first keeps.fetched (busy_alike x s.acts t.acts q keeps.request))
+
+pub finishes_alike : (x : Setting) (name : List ℕ) (s t : Seen) (q : ℕ) → LooksAlike x s t → KeepsAlike x s.acts t.acts q → (failed : Bool) → device_queue_turn x name s failed (queue.Finish q) ≡ device_queue_turn x name t failed (queue.Finish q)
+finishes_alike x name s t q looks keeps failed = on_session s t (λ made. finish_turn x made s.acts q) (λ made. finish_turn x made t.acts q) looks.made looks.opened
+    (λ made. finish_alike x made s.acts t.acts q looks.state (fun_ext looks.memory) keeps)
