@@ -1,4 +1,4 @@
 pub mod Legal
 pub mod Origins_of
-pub mod Reads_of
 pub mod Alike_of
+pub mod Reads_of

@@ -1,5 +1,5 @@
 -- Where each byte came from.
-use Rattle.std.proofs.Common.{◌≡◌, ℕ, zero, suc, ◌+◌, ◌-◌, ◌*◌, ◌/◌, ◌≤◌, Bool, true, false, refl, ap, subst, ◌∙◌, sym, arith, Option, None, Some, cond, List, [], ◌∷◌, ◌&&◌, not, nat_le, nat_lt, true≢false, ◌⊎◌, inl, inr}
+use Rattle.std.proofs.Common.{◌≡◌, ℕ, zero, suc, ◌+◌, ◌-◌, ◌*◌, ◌/◌, ◌≤◌, Bool, true, false, refl, ap, subst, ◌∙◌, sym, arith, Option, None, Some, cond, List, [], ◌∷◌, ◌++◌, ◌&&◌, not, nat_le, nat_lt, true≢false, ◌⊎◌, inl, inr}
 use Rattle.std.specs.List.{slice_get}
 use Rattle.std.specs.Option.{option_map, option_and_then}
 use Rattle.std.proofs.lemmas.Bool.{and_parts, leb-true}
@@ -9,8 +9,10 @@ use Rattle.vd_model.specs.declared.memory.Origin.TheVariants.{Zero, Daemon, Hand
 use Rattle.vd_model.specs.Acts.{Act, Node, Driver, Streaming, Daemon_put, Area_made, Area_put, Registered, Deregistered, Mapped, Synced_device, Region_made, Driver_put}
 use Rattle.vd_model.specs.Live.{Registration, registered, in_use, page_of, meets_page, is_present, region_covers, maps_address}
 use Rattle.vd_model.specs.Puts.{Cell, Iova, Area, Ram, Put, byte_in, text_at, zero_if, is_to_device, home, is_moved, address_of, put_if, handed, handed_if, or_put, handed_back, address_put, address_put_if, iova_put, area_put, put_at, put_or, last_put, shown}
+use Rattle.vd_model.specs.Setting.{Setting}
+use Rattle.vd_laws.proofs.Legal.{Legal}
 use Rattle.vd_laws.specs.Among.{Among}
-use Rattle.vd_laws.specs.Origins.{has_registration, Writes, IsWritten, IsCopied, Hands, ComesFrom, Comes, IsReadable}
+use Rattle.vd_laws.specs.Origins.{has_registration, Writes, IsWritten, IsCopied, Hands, ComesFrom, Comes, IsReadable, IsAddressOf}
 
 -- a sync to the device is of a mapping that carries bytes there
 abbrev pub Fits : Act → Type 0
@@ -229,9 +231,36 @@ comes g acts fit a = by (registered acts) (standing_base acts) where
         (λ at is. is r.base a base refl) (comes_from g acts fit (Area (r.base + a)))
     either false = comes_from g acts fit (Iova a)
 
-pub readable : (g : ℕ) (acts : List Act) (a : ℕ) (put : Put) → Comes g acts a put → IsReadable g acts a put.byte
-readable g acts a put c = by put.origin c where
-  by : (origin : Origin) → ComesFrom g acts (λ at. at ≡ a) put.byte origin → IsReadable g acts a put.byte
-  by Zero c = inl c
-  by Daemon c = inr (inl c)
-  by (Handed mapping) c = inr (inr (mapping, c))
+-- what stands in the area
+pub comes_in_area : (g : ℕ) (acts : List Act) → AllFit acts → (o : ℕ)
+    → ComesFrom g acts (IsAddressOf acts o) (last_put g acts (Area o)).byte (last_put g acts (Area o)).origin
+unfolding From IsAt BaseOf
+comes_in_area g acts fit o =
+    weaker g acts (IsAt (last_base acts) (Area o)) (IsAddressOf acts o) (last_put g acts (Area o)).byte (last_put g acts (Area o)).origin
+    (λ at is. by at is (registered acts) (standing_base acts)) (comes_from g acts fit (Area o)) where
+  by : (at : ℕ) → IsAt (last_base acts) (Area o) at → (r : Option Registration) → BaseOf r (last_base acts) → (a : ℕ) → address_of r o ≡ Some a → at ≡ a
+  by at is None base a e = cc
+  by at is (Some r) base a e = within (is_within r.base r.size o) refl e where
+    within : (b : Bool) → is_within r.base r.size o ≡ b → cond b (Some (o - r.base)) None ≡ Some a → at ≡ a
+    within true f e =
+        let low : r.base ≤ o = leb-true r.base o (and_parts (nat_le r.base o) (nat_lt o (r.base + r.size)) f).0 in
+        let same : o - r.base ≡ a = cc in
+        is r.base a base (omega arith)
+    within false f e = cc
+
+-- by what an origin says
+pub readable : (g : ℕ) (acts : List Act) (P : ℕ → Type 0) (byte : ℕ) (origin : Origin) → ComesFrom g acts P byte origin → IsReadable g acts P byte
+readable g acts P byte Zero c = inl c
+readable g acts P byte Daemon c = inr (inl c)
+readable g acts P byte (Handed mapping) c = inr (inr (mapping, c))
+
+-- ---- the acts of a run
+
+pub fitting : (x : Setting) (acts : List Act) → Legal x acts → AllFit acts
+fitting x [] legal = tt
+fitting x (Driver (Synced_device m) ∷ acts) legal = (legal.0.1, fitting x acts legal.1)
+fitting x (_ ∷ acts) legal = (tt, fitting x acts legal.1)
+
+pub earlier_fit : (later acts : List Act) → AllFit (later ++ acts) → AllFit acts
+earlier_fit [] acts fit = fit
+earlier_fit (act ∷ later) acts fit = earlier_fit later acts fit.1

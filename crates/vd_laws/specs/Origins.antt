@@ -3,8 +3,8 @@ use Rattle.std.specs.Prelude.{ℕ, ◌+◌, ◌-◌, List, [], ◌∷◌, ◌++�
 use Rattle.vd_model.specs.declared.memory.Origin.{Origin}
 use Rattle.vd_model.specs.declared.memory.Origin.TheVariants.{Zero, Daemon, Handed}
 use Rattle.vd_model.specs.Acts.{Act, Node, Driver, Streaming, Daemon_put, Area_put, Registered, Mapped, Synced_device, Driver_put}
-use Rattle.vd_model.specs.Live.{iova_of, maps_address}
-use Rattle.vd_model.specs.Puts.{Put, byte_in, is_to_device, ram}
+use Rattle.vd_model.specs.Live.{registered, iova_of, maps_address}
+use Rattle.vd_model.specs.Puts.{Put, byte_in, is_to_device, address_of, ram}
 use Rattle.vd_laws.specs.Among.{Among}
 
 -- ---- a daemon's writes
@@ -65,6 +65,11 @@ ComesFrom g acts Passes byte (Handed mapping) = IsHanded g acts Passes byte mapp
 abbrev pub Comes : ℕ → List Act → ℕ → Put → Type 0
 Comes g acts a put = ComesFrom g acts (λ at. at ≡ a) put.byte put.origin
 
--- a byte at an address is a zero, a daemon wrote it, or the device's own driver handed it
-abbrev pub IsReadable : ℕ → List Act → ℕ → ℕ → Type 0
-IsReadable g acts a byte = (byte ≡ 0) ⊎ IsWritten acts byte ⊎ ((mapping : Option ℕ) × IsHanded g acts (λ at. at ≡ a) byte mapping)
+-- the byte is a zero, a daemon wrote it, or the device's own driver handed it, at an address that passes where no
+-- registration was made since
+abbrev pub IsReadable : ℕ → List Act → (ℕ → Type 0) → ℕ → Type 0
+IsReadable g acts Passes byte = (byte ≡ 0) ⊎ IsWritten acts byte ⊎ ((mapping : Option ℕ) × IsHanded g acts Passes byte mapping)
+
+-- the address whose cell is byte o of the area, where there is one
+abbrev pub IsAddressOf : List Act → ℕ → ℕ → Type 0
+IsAddressOf acts o at = (a : ℕ) → address_of (registered acts) o ≡ Some a → at ≡ a

@@ -8,7 +8,7 @@ use Rattle.vd_model.specs.declared.answer.Answer.TheVariants.{Done}
 use Rattle.vd_model.specs.declared.answer.Item.TheVariants.{Text}
 use Rattle.vd_model.specs.Setting.{Setting}
 use Rattle.vd_model.specs.Acts.{Act}
-use Rattle.vd_model.specs.Puts.{shown}
+use Rattle.vd_model.specs.Puts.{Area, last_put, shown}
 use Rattle.vd_model.specs.Memory.{read}
 use Rattle.vd_model.specs.Deeds.{Seen, seen}
 use Rattle.vd_model.specs.AreaTurns.{is_accessible}
@@ -16,7 +16,7 @@ use Rattle.vd_model.specs.DaemonTurns.{daemon_memory}
 use Rattle.vd_model.specs.History.{History, outcome, reply, deeds_of}
 use Rattle.vd_laws.specs.Runs.{acts_of}
 use Rattle.vd_laws.specs.Alike.{LooksAlike, KeepsAlike}
-use Rattle.vd_laws.specs.Origins.{Comes, IsReadable}
+use Rattle.vd_laws.specs.Origins.{Comes, IsReadable, IsAddressOf}
 
 -- the device's acts up to some moment of a history
 abbrev pub IsMoment : Setting → History → List ℕ → List Act → Type 0
@@ -26,6 +26,12 @@ IsMoment x h d acts = (later : List Act) × (acts_of x h d ≡ later ++ acts)
 pub record IsShown (x : Setting) (acts : List Act) (a byte : ℕ) : Type 0 where
   pub accessible : IsTrue (is_accessible x acts a)
   pub stands : byte ≡ (shown x.per_page acts a).byte
+
+-- byte o of the area has this value, and it is a zero, a daemon wrote it, or the device's own driver handed it, at the
+-- address whose cell it is where one is
+pub record IsInArea (x : Setting) (acts : List Act) (o byte : ℕ) : Type 0 where
+  pub stands : byte ≡ (last_put x.per_page acts (Area o)).byte
+  pub readable : IsReadable x.per_page acts (IsAddressOf acts o) byte
 
 -- what a device's daemon can look at after a history
 abbrev pub seen_after : Setting → History → List ℕ → Seen
@@ -40,7 +46,11 @@ pub record ReadLaw (x : Setting) (h : History) : Type 0 where
   -- and each of them is a zero, a daemon wrote it, or the device's own driver handed it
   pub loads_readable : (d : List ℕ) (at len : ℕ) (failed : Bool) (bytes : List ℕ)
     → reply x h (Device d (line.Area (area.Load at len))) failed ≡ Done (Text bytes ∷ [])
-    → (i : ℕ) → i < len → IsReadable x.per_page (acts_of x h d) (at + i) (slice_index bytes i)
+    → (i : ℕ) → i < len → IsReadable x.per_page (acts_of x h d) (λ a. a ≡ at + i) (slice_index bytes i)
+  -- what an areaget is answered stands in the area, where a registration keeps the bytes of addresses
+  pub areagets : (d : List ℕ) (at len : ℕ) (failed : Bool) (bytes : List ℕ)
+    → reply x h (Device d (line.Area (area.AreaGet at len))) failed ≡ Done (Text bytes ∷ [])
+    → (i : ℕ) → i < len → IsInArea x (acts_of x h d) (at + i) (slice_index bytes i)
   -- what stands at an address came from where its origin says
   pub origins : (d : List ℕ) (acts : List Act) → IsMoment x h d acts → (a : ℕ) → Comes x.per_page acts a (shown x.per_page acts a)
   -- what the block daemon reads are bytes of addresses that can be accessed
@@ -50,7 +60,7 @@ pub record ReadLaw (x : Setting) (h : History) : Type 0 where
   -- and each of them is a zero, a daemon wrote it, or the device's own driver handed it
   pub reads_readable : (d : List ℕ) (acts : List Act) → IsMoment x h d acts
     → (at len : ℕ) (bytes : List ℕ) → read (daemon_memory x acts) at len ≡ Ok bytes
-    → (i : ℕ) → i < len → IsReadable x.per_page acts (at + i) (slice_index bytes i)
+    → (i : ℕ) → i < len → IsReadable x.per_page acts (λ a. a ≡ at + i) (slice_index bytes i)
   -- a walk sees nothing else of memory: where the devices look alike it is answered alike
   pub walks : (g : History) (d : List ℕ) → LooksAlike x (seen_after x h d) (seen_after x g d)
     → (q head : ℕ) (failed : Bool)
