@@ -3,3 +3,4 @@ pub mod Runs
 pub mod Origins
 pub mod Alike
 pub mod Reads
+pub mod ReadSamples

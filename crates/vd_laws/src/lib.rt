@@ -7,4 +7,4 @@
 
 mod reading;
 
-pub use reading::reads;
+pub use reading::instances_of_reading;
