@@ -1,8 +1,14 @@
 -- Short runs of one device, for instances of the law on reads.
-use Rattle.std.specs.Prelude.{ℕ, List, [], ◌∷◌, ◌++◌, false}
+use Rattle.std.specs.Prelude.{ℕ, List, [], ◌∷◌, false}
 use Rattle.vd_model.specs.declared.memory.Dir.TheVariants.{To}
+use Rattle.vd_model.specs.declared.step.Step.{Step}
+use Rattle.vd_model.specs.declared.step.Step.TheVariants.{Control, Device}
+use Rattle.vd_model.specs.declared.step.DevStep.TheVariants as line
+use Rattle.vd_model.specs.declared.step.ControlStep.TheVariants as control
+use Rattle.vd_model.specs.declared.step.DriverStep.TheVariants as driver
 use Rattle.vd_model.specs.Setting.{Setting}
-use Rattle.vd_model.specs.Acts.{Act, Node, Driver, Streaming, Daemon_put, Area_made, Registered, Deregistered, Buffer, Mapped, Region_made, Driver_put}
+use Rattle.vd_model.specs.Acts.{Act, Node, Driver, Streaming, Daemon_put, Area_made, Registered, Buffer, Mapped, Region_made, Driver_put}
+use Rattle.vd_model.specs.History.{Entry, History}
 
 -- sixteen slots of bounce memory, so many in a page, and sixteen of coherent memory
 abbrev pub small : ℕ → Setting
@@ -26,3 +32,17 @@ stored = Node (Daemon_put 0xf001 (9 ∷ [])) ∷ mapped
 -- the driver writes a byte into a coherent region at address 0x1f000
 abbrev pub coherent : List Act
 coherent = Driver (Driver_put 0x1f000 (5 ∷ [])) ∷ Driver (Region_made (record { number = 0; slot = 31; len = 8 })) ∷ []
+
+-- the device `v`
+abbrev pub v : List ℕ
+v = 118 ∷ []
+
+abbrev pub asked : Step → Entry
+asked step = record { step = step; failed = false }
+
+-- the run of a script that maps the first two bytes of a buffer of three
+abbrev pub run : ℕ → History
+run third =
+    asked (Device v (line.Driver (driver.Map 0 0 2 To)))
+    ∷ asked (Device v (line.Driver (driver.Buf (7 ∷ 8 ∷ third ∷ []))))
+    ∷ asked (Control (control.Dev v)) ∷ []

@@ -2,12 +2,20 @@
 
 ghost use Rattle.std.specs.Prelude.{◌≡◌, ℕ, [], ◌∷◌, ◌++◌, false, Some, None, Ok, Err};
 ghost use Rattle.vd_model.specs.declared.memory.Origin.TheVariants.{Zero, Daemon, Handed};
+ghost use Rattle.vd_model.specs.declared.step.Step.TheVariants.{Device};
+ghost use Rattle.vd_model.specs.declared.step.DevStep.TheVariants as line;
+ghost use Rattle.vd_model.specs.declared.step.AreaStep.TheVariants as area;
+ghost use Rattle.vd_model.specs.declared.answer.Answer.TheVariants.{Done};
+ghost use Rattle.vd_model.specs.declared.answer.Item.TheVariants.{Text};
 ghost use Rattle.vd_model.specs.Acts.{Node, Deregistered};
 ghost use Rattle.vd_model.specs.Puts.{Area, last_put, shown};
 ghost use Rattle.vd_model.specs.Memory.{read};
 ghost use Rattle.vd_model.specs.DaemonTurns.{daemon_memory};
+ghost use Rattle.vd_model.specs.History.{reply};
 ghost use Rattle.vd_laws.specs.Origins.{IsHanded};
-ghost use Rattle.vd_laws.specs.ReadSamples.{small, mapped, kept, stored, coherent};
+ghost use Rattle.vd_laws.specs.Alike.{LooksAlike};
+ghost use Rattle.vd_laws.specs.Reads.{seen_after};
+ghost use Rattle.vd_laws.specs.ReadSamples.{small, mapped, kept, stored, coherent, v, run};
 
 /// Worked instances of the law on reads.
 pub fn instances_of_reading()
@@ -25,4 +33,7 @@ pub fn instances_of_reading()
     ensures read { read (daemon_memory (small 1) mapped) 0xf000 3 ≡ Ok (7 ∷ 8 ∷ 0 ∷ []) }
     ensures outside_a_page { read (daemon_memory (small 1) mapped) 0xefff 2 ≡ Err 0xefff }
     ensures within_a_large_page { read (daemon_memory (small 16) mapped) 0xefff 2 ≡ Ok (0 ∷ 7 ∷ []) }
+
+    ensures loaded { (third : ℕ) → reply (small 1) (run third) (Device v (line.Area (area.Load 0xf000 3))) false ≡ Done (Text (7 ∷ 8 ∷ 0 ∷ []) ∷ []) }
+    ensures third_byte_does_not_show { (a b : ℕ) → LooksAlike (small 1) (seen_after (small 1) (run a) v) (seen_after (small 1) (run b) v) }
 {}
