@@ -21,7 +21,8 @@ use Rattle.vd_model.specs.History.{History, device_turn, on, deeds_of}
 use Rattle.vd_laws.specs.Runs.{acts_of}
 use Rattle.vd_laws.specs.Origins.{IsReadable, IsAddressOf}
 use Rattle.vd_laws.specs.Reads.{IsShown, IsInArea, IsMoment, ReadLaw, seen_after}
-use Rattle.vd_laws.proofs.Origins_of.{AllFit, comes, comes_in_area, readable, earlier_fit}
+use Rattle.vd_laws.proofs.Origins_of.{AllFit, comes, comes_in_area, readable, fitting, earlier_fit}
+use Rattle.vd_laws.proofs.Turns.{own_legal}
 use Rattle.vd_laws.proofs.Alike_of.{walks, fetches_alike, finishes_alike}
 
 -- ---- loads
@@ -134,3 +135,7 @@ read_law_of x h fit = record {
   fetches = λ g d q looks keeps failed. ap (on d) (fetches_alike x d (seen_after x h d) (seen_after x g d) q looks keeps failed);
   finishes = λ g d q looks keeps failed. ap (on d) (finishes_alike x d (seen_after x h d) (seen_after x g d) q looks keeps failed);
 }
+
+-- it holds of every history
+pub read_law : (x : Setting) (h : History) → ReadLaw x h
+read_law x h = read_law_of x h (λ d. fitting x (acts_of x h d) (own_legal x h d))

@@ -7,4 +7,4 @@
 
 mod reading;
 
-pub use reading::instances_of_reading;
+pub use reading::{instances_of_reading, reads};

@@ -1,21 +1,28 @@
 //! What a daemon can read, and where it came from.
 
-ghost use Rattle.std.specs.Prelude.{◌≡◌, ℕ, [], ◌∷◌, ◌++◌, false, Some, None, Ok, Err};
+ghost use Rattle.std.specs.Prelude.{◌≡◌, ℕ, [], ◌∷◌, false, Some, None, Ok, Err};
 ghost use Rattle.vd_model.specs.declared.memory.Origin.TheVariants.{Zero, Daemon, Handed};
 ghost use Rattle.vd_model.specs.declared.step.Step.TheVariants.{Device};
 ghost use Rattle.vd_model.specs.declared.step.DevStep.TheVariants as line;
 ghost use Rattle.vd_model.specs.declared.step.AreaStep.TheVariants as area;
 ghost use Rattle.vd_model.specs.declared.answer.Answer.TheVariants.{Done};
 ghost use Rattle.vd_model.specs.declared.answer.Item.TheVariants.{Text};
+ghost use Rattle.vd_model.specs.Setting.{Setting};
 ghost use Rattle.vd_model.specs.Acts.{Node, Deregistered};
 ghost use Rattle.vd_model.specs.Puts.{Area, last_put, shown};
 ghost use Rattle.vd_model.specs.Memory.{read};
 ghost use Rattle.vd_model.specs.DaemonTurns.{daemon_memory};
-ghost use Rattle.vd_model.specs.History.{reply};
+ghost use Rattle.vd_model.specs.History.{History, reply};
 ghost use Rattle.vd_laws.specs.Origins.{IsHanded};
 ghost use Rattle.vd_laws.specs.Alike.{LooksAlike};
-ghost use Rattle.vd_laws.specs.Reads.{seen_after};
+ghost use Rattle.vd_laws.specs.Reads.{ReadLaw, seen_after};
 ghost use Rattle.vd_laws.specs.ReadSamples.{small, mapped, kept, stored, coherent, v, run};
+
+/// What a daemon reads stands at addresses that it can access, and is a zero, a daemon's write or a
+/// byte that the device's own driver handed.
+pub fn reads()
+    ensures { (x : Setting) (h : History) → ReadLaw x h }
+{}
 
 /// Worked instances of the law on reads.
 pub fn instances_of_reading()
