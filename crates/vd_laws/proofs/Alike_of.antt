@@ -1,5 +1,5 @@
 -- What the block daemon's lines look at.
-use Rattle.std.proofs.Common.{◌≡◌, ℕ, ◌+◌, ◌-◌, ◌<◌, ◌≤◌, refl, ap, subst, ◌∙◌, sym, arith, Bool, true, false, cond, not, nat_lt, Option, None, Some, is_some, unwrap_or, List, [], ◌∷◌, ◌++◌, take, drop, Result, Ok, Err}
+use Rattle.std.proofs.Common.{◌≡◌, ℕ, ◌+◌, ◌-◌, ◌<◌, refl, ap, ◌∙◌, sym, arith, Bool, true, false, cond, not, nat_lt, Option, None, Some, is_some, unwrap_or, List, [], ◌∷◌, ◌++◌, take, drop, Result, Ok, Err}
 use Rattle.std.proofs.Math.Path.{fun_ext}
 use Rattle.std.specs.Option.{option_map, option_map_or, option_and_then}
 use Rattle.std.proofs.lemmas.Bool.{ltb-true}
@@ -16,7 +16,6 @@ use Rattle.vd_model.specs.Acts.{Act, Node, Daemon_put, state_acts}
 use Rattle.vd_model.specs.State.{info_of}
 use Rattle.vd_model.specs.Live.{Registration, registered, is_open}
 use Rattle.vd_model.specs.Puts.{Iova, Area, byte_in, text_at, home, is_moved, address_of, address_put_if, put_at, put_or, last_put, shown}
-use Rattle.vd_model.specs.Memory.{Memory}
 use Rattle.vd_model.specs.Deeds.{Seen}
 use Rattle.vd_model.specs.Turn.{Turn, refused, refuse, given}
 use Rattle.vd_model.specs.BusTurns.{is_missing}

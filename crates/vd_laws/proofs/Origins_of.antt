@@ -1,5 +1,5 @@
 -- Where each byte came from.
-use Rattle.std.proofs.Common.{◌≡◌, ℕ, zero, suc, ◌+◌, ◌-◌, ◌*◌, ◌/◌, ◌≤◌, Bool, true, false, refl, ap, subst, ◌∙◌, sym, arith, Option, None, Some, cond, List, [], ◌∷◌, ◌++◌, ◌&&◌, not, nat_le, nat_lt, true≢false, ◌⊎◌, inl, inr}
+use Rattle.std.proofs.Common.{◌≡◌, ℕ, zero, suc, ◌+◌, ◌-◌, ◌≤◌, Bool, true, false, refl, ap, subst, ◌∙◌, sym, arith, Option, None, Some, cond, List, [], ◌∷◌, ◌++◌, ◌&&◌, not, nat_le, nat_lt, true≢false, inl, inr}
 use Rattle.std.specs.List.{slice_get}
 use Rattle.std.specs.Option.{option_map, option_and_then}
 use Rattle.std.proofs.lemmas.Bool.{and_parts, leb-true}
@@ -12,7 +12,7 @@ use Rattle.vd_model.specs.Puts.{Cell, Iova, Area, Ram, Put, byte_in, text_at, ze
 use Rattle.vd_model.specs.Setting.{Setting}
 use Rattle.vd_laws.proofs.Legal.{Legal}
 use Rattle.vd_laws.specs.Among.{Among}
-use Rattle.vd_laws.specs.Origins.{has_registration, Writes, IsWritten, IsCopied, Hands, ComesFrom, Comes, IsReadable, IsAddressOf}
+use Rattle.vd_laws.specs.Origins.{has_registration, IsWritten, IsCopied, Hands, ComesFrom, Comes, IsReadable, IsAddressOf}
 
 -- a sync to the device is of a mapping that carries bytes there
 abbrev pub Fits : Act → Type 0
@@ -75,7 +75,12 @@ carried : (g : ℕ) (act : Act) (acts : List Act) (P Q : ℕ → Type 0) (byte :
 carried g act acts P Q byte Zero f c = c
 carried g act acts P Q byte Daemon f c = written_later act acts byte c
 carried g act acts P Q byte (Handed mapping) f c = record {
-  later = act ∷ c.later; act = c.act; earlier = c.earlier; at = c.at; split = ap (λ l. act ∷ l) c.split; hands = c.hands;
+  later = act ∷ c.later;
+  act = c.act;
+  earlier = c.earlier;
+  at = c.at;
+  split = ap (λ l. act ∷ l) c.split;
+  hands = c.hands;
   stays = λ none. let p = no_registration act c.later none in f c.at p.0 (c.stays p.1);
 }
 
@@ -197,8 +202,8 @@ module _ (g : ℕ) (acts : List Act) where
   area_each (Node (Area_made n)) o h was = zero_each (nat_lt o n) (From g (Node (Area_made n) ∷ acts) (Area o)) (λ e. refl)
   area_each (Node (Area_put at bytes)) o h was = text_each bytes at o Daemon (From g (Node (Area_put at bytes) ∷ acts) (Area o)) (λ b e. (Node (Area_put at bytes), inl refl, byte_among bytes at o b e))
   area_each (Node (Registered base size)) o h was = put_each_if (is_within base size o && in_use g acts (page_of g (o - base))) (last_put g acts) (Iova (o - base)) (From g (Node (Registered base size) ∷ acts) (Area o))
-    (λ e. carried g (Node (Registered base size)) acts (IsAt (last_base acts) (Iova (o - base))) (IsAt (Some base) (Area o)) (last_put g acts (Iova (o - base))).byte (last_put g acts (Iova (o - base))).origin
-    (λ at none is. absurd (true≢false none)) (was (Iova (o - base))))
+      (λ e. carried g (Node (Registered base size)) acts (IsAt (last_base acts) (Iova (o - base))) (IsAt (Some base) (Area o)) (last_put g acts (Iova (o - base))).byte (last_put g acts (Iova (o - base))).origin
+      (λ at none is. absurd (true≢false none)) (was (Iova (o - base))))
   area_each act o h was = placed_each act o h refl (registered acts) (standing_base acts)
 
   put_each : (act : Act) (cell : Cell) → Fits act → ((cell : Cell) → From g acts cell (last_put g acts cell)) → Each (put_at g (last_put g acts) acts act cell) (From g (act ∷ acts) cell)
@@ -238,15 +243,15 @@ unfolding From IsAt BaseOf
 comes_in_area g acts fit o =
     weaker g acts (IsAt (last_base acts) (Area o)) (IsAddressOf acts o) (last_put g acts (Area o)).byte (last_put g acts (Area o)).origin
     (λ at is. by at is (registered acts) (standing_base acts)) (comes_from g acts fit (Area o)) where
-  by : (at : ℕ) → IsAt (last_base acts) (Area o) at → (r : Option Registration) → BaseOf r (last_base acts) → (a : ℕ) → address_of r o ≡ Some a → at ≡ a
-  by at is None base a e = cc
-  by at is (Some r) base a e = within (is_within r.base r.size o) refl e where
-    within : (b : Bool) → is_within r.base r.size o ≡ b → cond b (Some (o - r.base)) None ≡ Some a → at ≡ a
-    within true f e =
-        let low : r.base ≤ o = leb-true r.base o (and_parts (nat_le r.base o) (nat_lt o (r.base + r.size)) f).0 in
-        let same : o - r.base ≡ a = cc in
-        is r.base a base (omega arith)
-    within false f e = cc
+      by : (at : ℕ) → IsAt (last_base acts) (Area o) at → (r : Option Registration) → BaseOf r (last_base acts) → (a : ℕ) → address_of r o ≡ Some a → at ≡ a
+      by at is None base a e = cc
+      by at is (Some r) base a e = within (is_within r.base r.size o) refl e where
+        within : (b : Bool) → is_within r.base r.size o ≡ b → cond b (Some (o - r.base)) None ≡ Some a → at ≡ a
+        within true f e =
+            let low : r.base ≤ o = leb-true r.base o (and_parts (nat_le r.base o) (nat_lt o (r.base + r.size)) f).0 in
+            let same : o - r.base ≡ a = cc in
+            is r.base a base (omega arith)
+        within false f e = cc
 
 -- by what an origin says
 pub readable : (g : ℕ) (acts : List Act) (P : ℕ → Type 0) (byte : ℕ) (origin : Origin) → ComesFrom g acts P byte origin → IsReadable g acts P byte

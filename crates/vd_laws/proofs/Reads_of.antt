@@ -1,5 +1,5 @@
 -- What a daemon reads.
-use Rattle.std.proofs.Common.{◌≡◌, ℕ, zero, suc, ◌+◌, ◌-◌, ◌<◌, ◌≤◌, Bool, true, false, IsTrue, refl, ap, subst, ◌∙◌, sym, arith, Option, None, Some, cond, List, [], ◌∷◌, ◌++◌, not, slice_index, Result, Ok, Err}
+use Rattle.std.proofs.Common.{◌≡◌, ℕ, zero, suc, ◌+◌, ◌<◌, Bool, true, false, refl, ap, subst, ◌∙◌, sym, arith, Option, None, Some, cond, List, [], ◌∷◌, not, slice_index, Result, Ok, Err}
 use Rattle.std.specs.Option.{option_map_or}
 use Rattle.vd_num.specs.declared.errno.Errno.{Errno}
 use Rattle.vd_num.specs.declared.errno.Errno.TheVariants.{Badf}
@@ -14,10 +14,10 @@ use Rattle.vd_model.specs.Live.{is_open, area_len}
 use Rattle.vd_model.specs.Puts.{Area, last_put, shown, each_from, bus_bytes, area_bytes}
 use Rattle.vd_model.specs.Memory.{Memory, read, byte_then}
 use Rattle.vd_model.specs.Deeds.{Seen}
-use Rattle.vd_model.specs.Turn.{Turn, refuse, refused, given, lift, told}
+use Rattle.vd_model.specs.Turn.{refuse, given, lift, told}
 use Rattle.vd_model.specs.AreaTurns.{is_accessible, first_failing, first_bus, part_refusal}
 use Rattle.vd_model.specs.DaemonTurns.{daemon_memory}
-use Rattle.vd_model.specs.History.{History, device_turn, on, deeds_of}
+use Rattle.vd_model.specs.History.{History, device_turn, on}
 use Rattle.vd_laws.specs.Runs.{acts_of}
 use Rattle.vd_laws.specs.Origins.{IsReadable, IsAddressOf}
 use Rattle.vd_laws.specs.Reads.{IsShown, IsInArea, IsMoment, ReadLaw, seen_after}
@@ -56,6 +56,7 @@ load_reads x s at len bytes e i below = there s.made e where
         accessible = none_fails (is_accessible x s.acts) at len f i below;
         stands = ap (λ l. slice_index l i) (sym same) ∙ each_at (λ a. (shown x.per_page s.acts a).byte) at len i below;
       }
+
   there : (made : Option Creation) → (device_turn x (record { made = made; acts = s.acts; now = s.now; window = s.window; disk = s.disk }) (line.Area (area.Load at len))).answer ≡ Done (Text bytes ∷ [])
       → IsShown x s.acts (at + i) (slice_index bytes i)
   there None e = cc
@@ -72,6 +73,7 @@ area_reads x s at len bytes e i below = there s.made e where
   by None None f =
       let same : area_bytes x.per_page s.acts at len ≡ bytes = cc in
       ap (λ l. slice_index l i) (sym same) ∙ each_at (λ o. (last_put x.per_page s.acts (Area o)).byte) at len i below
+
   there : (made : Option Creation) → (device_turn x (record { made = made; acts = s.acts; now = s.now; window = s.window; disk = s.disk }) (line.Area (area.AreaGet at len))).answer ≡ Done (Text bytes ∷ [])
       → slice_index bytes i ≡ (last_put x.per_page s.acts (Area (at + i))).byte
   there None e = cc
@@ -115,7 +117,7 @@ in_area : (x : Setting) (acts : List Act) → AllFit acts → (o byte : ℕ) →
 in_area x acts fit o byte same = record {
   stands = same;
   readable = subst (IsReadable x.per_page acts (IsAddressOf acts o)) (sym same)
-    (readable x.per_page acts (IsAddressOf acts o) (last_put x.per_page acts (Area o)).byte (last_put x.per_page acts (Area o)).origin (comes_in_area x.per_page acts fit o));
+      (readable x.per_page acts (IsAddressOf acts o) (last_put x.per_page acts (Area o)).byte (last_put x.per_page acts (Area o)).origin (comes_in_area x.per_page acts fit o));
 }
 
 at_moment : (x : Setting) (h : History) (d : List ℕ) (acts : List Act) → AllFit (acts_of x h d) → IsMoment x h d acts → AllFit acts
@@ -126,11 +128,11 @@ read_law_of x h fit = record {
   loads = λ d at len failed bytes e i below. load_reads x (seen_after x h d) at len bytes e i below;
   loads_readable = λ d at len failed bytes e i below. shown_readable x (acts_of x h d) (fit d) (at + i) (slice_index bytes i) (load_reads x (seen_after x h d) at len bytes e i below);
   areagets = λ d at len failed bytes e i below.
-    in_area x (acts_of x h d) (fit d) (at + i) (slice_index bytes i) (area_reads x (seen_after x h d) at len bytes e i below);
+      in_area x (acts_of x h d) (fit d) (at + i) (slice_index bytes i) (area_reads x (seen_after x h d) at len bytes e i below);
   origins = λ d acts moment a. comes x.per_page acts (at_moment x h d acts (fit d) moment) a;
   reads = λ d acts moment at len bytes e i below. memory_reads x acts at len bytes e i below;
   reads_readable = λ d acts moment at len bytes e i below.
-    shown_readable x acts (at_moment x h d acts (fit d) moment) (at + i) (slice_index bytes i) (memory_reads x acts at len bytes e i below);
+      shown_readable x acts (at_moment x h d acts (fit d) moment) (at + i) (slice_index bytes i) (memory_reads x acts at len bytes e i below);
   walks = λ g d looks q head failed. ap (on d) (walks x d (seen_after x h d) (seen_after x g d) looks q head failed);
   fetches = λ g d q looks keeps failed. ap (on d) (fetches_alike x d (seen_after x h d) (seen_after x g d) q looks keeps failed);
   finishes = λ g d q looks keeps failed. ap (on d) (finishes_alike x d (seen_after x h d) (seen_after x g d) q looks keeps failed);

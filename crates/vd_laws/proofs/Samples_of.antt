@@ -1,5 +1,5 @@
 -- The short runs compute.
-use Rattle.std.proofs.Common.{◌≡◌, ℕ, zero, suc, ◌+◌, ◌-◌, ◌<◌, ◌≤◌, ◌&&◌, not, Bool, true, false, refl, ap, ◌∙◌, sym, arith, None, Some, cond, List, [], ◌∷◌, nat_le, nat_lt}
+use Rattle.std.proofs.Common.{◌≡◌, ℕ, zero, suc, ◌+◌, ◌-◌, ◌<◌, ◌≤◌, ◌&&◌, not, Bool, true, false, refl, ap, arith, None, Some, cond, List, [], ◌∷◌, nat_le, nat_lt}
 use Rattle.std.proofs.lemmas.Bool.{and_parts, leb-true, ltb-true}
 use Rattle.vd_num.specs.Number.{power_from, doubled_to}
 use Rattle.vd_model.specs.declared.step.Step.TheVariants.{Device}

@@ -5,7 +5,7 @@ use Rattle.vd_model.specs.Setting.{Setting}
 use Rattle.vd_model.specs.Acts.{Act, state_acts}
 use Rattle.vd_model.specs.Live.{is_open}
 use Rattle.vd_model.specs.Deeds.{Seen}
-use Rattle.vd_model.specs.Queues.{Executed_as, fetches, finishes, in_hand, executed}
+use Rattle.vd_model.specs.Queues.{fetches, finishes, in_hand, executed}
 use Rattle.vd_model.specs.DaemonTurns.{Hand, daemon_memory, first_used, hand}
 
 -- they were made alike, both have a session or neither, their state is the same, and so is each byte that can be accessed

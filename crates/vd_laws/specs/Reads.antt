@@ -1,5 +1,5 @@
 -- The law on what a daemon reads.
-use Rattle.std.specs.Prelude.{ℕ, ◌+◌, ◌<◌, List, [], ◌∷◌, ◌++◌, Bool, IsTrue, ◌≡◌, Some, Ok, slice_index}
+use Rattle.std.specs.Prelude.{ℕ, ◌+◌, ◌<◌, List, [], ◌∷◌, ◌++◌, Bool, IsTrue, ◌≡◌, Ok, slice_index}
 use Rattle.vd_model.specs.declared.step.Step.TheVariants.{Device, Queue}
 use Rattle.vd_model.specs.declared.step.DevStep.TheVariants as line
 use Rattle.vd_model.specs.declared.step.AreaStep.TheVariants as area
@@ -41,34 +41,34 @@ seen_after x h d = seen x d (deeds_of x h)
 pub record ReadLaw (x : Setting) (h : History) : Type 0 where
   -- a load is answered with bytes of addresses that can be accessed
   pub loads : (d : List ℕ) (at len : ℕ) (failed : Bool) (bytes : List ℕ)
-    → reply x h (Device d (line.Area (area.Load at len))) failed ≡ Done (Text bytes ∷ [])
-    → (i : ℕ) → i < len → IsShown x (acts_of x h d) (at + i) (slice_index bytes i)
+      → reply x h (Device d (line.Area (area.Load at len))) failed ≡ Done (Text bytes ∷ [])
+      → (i : ℕ) → i < len → IsShown x (acts_of x h d) (at + i) (slice_index bytes i)
   -- and each of them is a zero, a daemon wrote it, or the device's own driver handed it
   pub loads_readable : (d : List ℕ) (at len : ℕ) (failed : Bool) (bytes : List ℕ)
-    → reply x h (Device d (line.Area (area.Load at len))) failed ≡ Done (Text bytes ∷ [])
-    → (i : ℕ) → i < len → IsReadable x.per_page (acts_of x h d) (λ a. a ≡ at + i) (slice_index bytes i)
+      → reply x h (Device d (line.Area (area.Load at len))) failed ≡ Done (Text bytes ∷ [])
+      → (i : ℕ) → i < len → IsReadable x.per_page (acts_of x h d) (λ a. a ≡ at + i) (slice_index bytes i)
   -- what an areaget is answered stands in the area, where a registration keeps the bytes of addresses
   pub areagets : (d : List ℕ) (at len : ℕ) (failed : Bool) (bytes : List ℕ)
-    → reply x h (Device d (line.Area (area.AreaGet at len))) failed ≡ Done (Text bytes ∷ [])
-    → (i : ℕ) → i < len → IsInArea x (acts_of x h d) (at + i) (slice_index bytes i)
+      → reply x h (Device d (line.Area (area.AreaGet at len))) failed ≡ Done (Text bytes ∷ [])
+      → (i : ℕ) → i < len → IsInArea x (acts_of x h d) (at + i) (slice_index bytes i)
   -- what stands at an address came from where its origin says
   pub origins : (d : List ℕ) (acts : List Act) → IsMoment x h d acts → (a : ℕ) → Comes x.per_page acts a (shown x.per_page acts a)
   -- what the block daemon reads are bytes of addresses that can be accessed
   pub reads : (d : List ℕ) (acts : List Act) → IsMoment x h d acts
-    → (at len : ℕ) (bytes : List ℕ) → read (daemon_memory x acts) at len ≡ Ok bytes
-    → (i : ℕ) → i < len → IsShown x acts (at + i) (slice_index bytes i)
+      → (at len : ℕ) (bytes : List ℕ) → read (daemon_memory x acts) at len ≡ Ok bytes
+      → (i : ℕ) → i < len → IsShown x acts (at + i) (slice_index bytes i)
   -- and each of them is a zero, a daemon wrote it, or the device's own driver handed it
   pub reads_readable : (d : List ℕ) (acts : List Act) → IsMoment x h d acts
-    → (at len : ℕ) (bytes : List ℕ) → read (daemon_memory x acts) at len ≡ Ok bytes
-    → (i : ℕ) → i < len → IsReadable x.per_page acts (λ a. a ≡ at + i) (slice_index bytes i)
+      → (at len : ℕ) (bytes : List ℕ) → read (daemon_memory x acts) at len ≡ Ok bytes
+      → (i : ℕ) → i < len → IsReadable x.per_page acts (λ a. a ≡ at + i) (slice_index bytes i)
   -- a walk sees nothing else of memory: where the devices look alike it is answered alike
   pub walks : (g : History) (d : List ℕ) → LooksAlike x (seen_after x h d) (seen_after x g d)
-    → (q head : ℕ) (failed : Bool)
-    → outcome x (deeds_of x h) (Queue d (queue.Walk q head)) failed ≡ outcome x (deeds_of x g) (Queue d (queue.Walk q head)) failed
+      → (q head : ℕ) (failed : Bool)
+      → outcome x (deeds_of x h) (Queue d (queue.Walk q head)) failed ≡ outcome x (deeds_of x g) (Queue d (queue.Walk q head)) failed
   -- nor does a fetch, or a finish: where the daemon keeps the same of the queue they are answered alike and write alike
   pub fetches : (g : History) (d : List ℕ) (q : ℕ) → LooksAlike x (seen_after x h d) (seen_after x g d) → KeepsAlike x (acts_of x h d) (acts_of x g d) q
-    → (failed : Bool)
-    → outcome x (deeds_of x h) (Queue d (queue.Fetch q)) failed ≡ outcome x (deeds_of x g) (Queue d (queue.Fetch q)) failed
+      → (failed : Bool)
+      → outcome x (deeds_of x h) (Queue d (queue.Fetch q)) failed ≡ outcome x (deeds_of x g) (Queue d (queue.Fetch q)) failed
   pub finishes : (g : History) (d : List ℕ) (q : ℕ) → LooksAlike x (seen_after x h d) (seen_after x g d) → KeepsAlike x (acts_of x h d) (acts_of x g d) q
-    → (failed : Bool)
-    → outcome x (deeds_of x h) (Queue d (queue.Finish q)) failed ≡ outcome x (deeds_of x g) (Queue d (queue.Finish q)) failed
+      → (failed : Bool)
+      → outcome x (deeds_of x h) (Queue d (queue.Finish q)) failed ≡ outcome x (deeds_of x g) (Queue d (queue.Finish q)) failed
