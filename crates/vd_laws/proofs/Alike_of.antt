@@ -21,9 +21,10 @@ use Rattle.vd_model.specs.Turn.{Turn, refused, refuse, given}
 use Rattle.vd_model.specs.BusTurns.{is_missing}
 use Rattle.vd_model.specs.AreaTurns.{is_accessible}
 use Rattle.vd_model.specs.Queues.{Executed_as, fetches, finishes, in_hand, executed}
-use Rattle.vd_model.specs.DaemonTurns.{Hand, daemon_memory, walk_turn, fetch_chain, fetch_turn, first_used, moved, used_position, hand, place_of, queue_place, spread, finish_puts, finish_hand, finish_turn}
-use Rattle.vd_model.specs.History.{needs_session, device_queue_turn}
-use Rattle.vd_laws.specs.Alike.{LooksAlike, KeepsAlike, request_in_hand}
+use Rattle.vd_model.specs.Block.{Disk}
+use Rattle.vd_model.specs.DaemonTurns.{Hand, daemon_memory, walk_turn, fetch_chain, fetch_turn, first_used, moved, used_position, hand, place_of, queue_place, spread, finish_puts, finish_hand, finish_turn, execute_hand, execute_turn}
+use Rattle.vd_model.specs.History.{needs_session, disk_of, device_queue_turn}
+use Rattle.vd_laws.specs.Alike.{LooksAlike, HasSameDisk, KeepsAlike, request_in_hand}
 
 walk_alike : (x : Setting) (made : Creation) (s t : List Act) (q head : ℕ) → state_acts s ≡ state_acts t → daemon_memory x s ≡ daemon_memory x t → walk_turn x made s q head ≡ walk_turn x made t q head
 walk_alike x made s t q head state memory = rw (state, memory) refl
@@ -145,6 +146,29 @@ finish_alike x made s t q state memory keeps =
     (fun_ext (λ h. finish_of_alike x s t q h state memory (used_alike x s t q keeps.first keeps.finished) keeps.ended))
     ∙ sym (finish_in_hand x made t q)
 
+-- ---- an execute
+
+-- an execute of the request in hand, if one is
+execute_in_hand : (x : Setting) (made : Creation) (disk : Disk) (failed : Bool) (acts : List Act) (q : ℕ)
+    → execute_turn x made disk failed acts q
+    ≡ refuse (given (is_missing made q) Inval) (refuse (given (is_some (executed acts q)) Noent) (option_map_or (execute_hand disk failed q) (request_in_hand x acts q) (refused Noent)))
+execute_in_hand x made disk failed acts q = ap (λ turn. refuse (given (is_missing made q) Inval) (refuse (given (is_some (executed acts q)) Noent) turn)) (by (in_hand acts q)) where
+  by : (o : Option (List Act)) → option_map_or (λ earlier. execute_hand disk failed q (hand x earlier q)) o (refused Noent) ≡ option_map_or (execute_hand disk failed q) (option_map (λ earlier. hand x earlier q) o) (refused Noent)
+  by None = refl
+  by (Some earlier) = refl
+
+execute_alike : (x : Setting) (made : Creation) (disk : Disk) (failed : Bool) (s t : List Act) (q : ℕ) → KeepsAlike x s t q → execute_turn x made disk failed s q ≡ execute_turn x made disk failed t q
+execute_alike x made disk failed s t q keeps =
+    execute_in_hand x made disk failed s q
+    ∙ ap (λ o. refuse (given (is_missing made q) Inval) (refuse (given (is_some o) Noent) (option_map_or (execute_hand disk failed q) (request_in_hand x s q) (refused Noent)))) keeps.ended
+    ∙ ap (λ o. refuse (given (is_missing made q) Inval) (refuse (given (is_some (executed t q)) Noent) (option_map_or (execute_hand disk failed q) o (refused Noent)))) keeps.request
+    ∙ sym (execute_in_hand x made disk failed t q)
+
+disk_alike : (made : Creation) (name : List ℕ) (s t : Seen) → HasSameDisk s t → disk_of made name s ≡ disk_of made name t
+disk_alike made name s t same =
+    ap (λ w. record { sectors = option_map_or (λ w. w.count) w 0; byte = s.disk; features = made.features; name = name }) same.window
+    ∙ ap (λ f. record { sectors = option_map_or (λ w. w.count) t.window 0; byte = f; features = made.features; name = name }) (fun_ext same.disk)
+
 -- ---- the lines
 
 -- a line of a daemon with a session, on a device
@@ -165,3 +189,8 @@ fetches_alike x name s t q looks keeps failed = on_session s t (λ made. fetch_t
 pub finishes_alike : (x : Setting) (name : List ℕ) (s t : Seen) (q : ℕ) → LooksAlike x s t → KeepsAlike x s.acts t.acts q → (failed : Bool) → device_queue_turn x name s failed (queue.Finish q) ≡ device_queue_turn x name t failed (queue.Finish q)
 finishes_alike x name s t q looks keeps failed = on_session s t (λ made. finish_turn x made s.acts q) (λ made. finish_turn x made t.acts q) looks.made looks.opened
     (λ made. finish_alike x made s.acts t.acts q looks.state (fun_ext looks.memory) keeps)
+
+pub executes_alike : (x : Setting) (name : List ℕ) (s t : Seen) (q : ℕ) → HasSameDisk s t → KeepsAlike x s.acts t.acts q → (failed : Bool) → device_queue_turn x name s failed (queue.Execute q) ≡ device_queue_turn x name t failed (queue.Execute q)
+executes_alike x name s t q same keeps failed =
+    on_session s t (λ made. execute_turn x made (disk_of made name s) failed s.acts q) (λ made. execute_turn x made (disk_of made name t) failed t.acts q) same.made same.opened
+    (λ made. ap (λ disk. execute_turn x made disk failed s.acts q) (disk_alike made name s t same) ∙ execute_alike x made (disk_of made name t) failed s.acts t.acts q keeps)

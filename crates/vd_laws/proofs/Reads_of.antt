@@ -23,7 +23,7 @@ use Rattle.vd_laws.specs.Origins.{IsReadable, IsAddressOf}
 use Rattle.vd_laws.specs.Reads.{IsShown, IsInArea, IsMoment, ReadLaw, seen_after}
 use Rattle.vd_laws.proofs.Origins_of.{AllFit, comes, comes_in_area, readable, fitting, earlier_fit}
 use Rattle.vd_laws.proofs.Turns.{own_legal}
-use Rattle.vd_laws.proofs.Alike_of.{walks, fetches_alike, finishes_alike}
+use Rattle.vd_laws.proofs.Alike_of.{walks, fetches_alike, finishes_alike, executes_alike}
 
 -- ---- loads
 
@@ -130,12 +130,14 @@ read_law_of x h fit = record {
   areagets = λ d at len failed bytes e i below.
       in_area x (acts_of x h d) (fit d) (at + i) (slice_index bytes i) (area_reads x (seen_after x h d) at len bytes e i below);
   origins = λ d acts moment a. comes x.per_page acts (at_moment x h d acts (fit d) moment) a;
+  memory = λ d acts moment a byte e. memory_shown x acts a byte e;
   reads = λ d acts moment at len bytes e i below. memory_reads x acts at len bytes e i below;
   reads_readable = λ d acts moment at len bytes e i below.
       shown_readable x acts (at_moment x h d acts (fit d) moment) (at + i) (slice_index bytes i) (memory_reads x acts at len bytes e i below);
   walks = λ g d looks q head failed. ap (on d) (walks x d (seen_after x h d) (seen_after x g d) looks q head failed);
   fetches = λ g d q looks keeps failed. ap (on d) (fetches_alike x d (seen_after x h d) (seen_after x g d) q looks keeps failed);
   finishes = λ g d q looks keeps failed. ap (on d) (finishes_alike x d (seen_after x h d) (seen_after x g d) q looks keeps failed);
+  executes = λ g d q same keeps failed. ap (on d) (executes_alike x d (seen_after x h d) (seen_after x g d) q same keeps failed);
 }
 
 -- it holds of every history

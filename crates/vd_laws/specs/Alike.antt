@@ -15,6 +15,13 @@ pub record LooksAlike (x : Setting) (s t : Seen) : Type 0 where
   pub state : state_acts s.acts ≡ state_acts t.acts
   pub memory : (a : ℕ) → daemon_memory x s.acts a ≡ daemon_memory x t.acts a
 
+-- they were made alike, both have a session or neither, and their disks are the same
+pub record HasSameDisk (s t : Seen) : Type 0 where
+  pub made : s.made ≡ t.made
+  pub opened : is_open s.acts ≡ is_open t.acts
+  pub window : s.window ≡ t.window
+  pub disk : (i : ℕ) → s.disk i ≡ t.disk i
+
 -- the request in hand on a queue, as it was read when it was fetched
 abbrev pub request_in_hand : Setting → List Act → ℕ → Option Hand
 request_in_hand x acts q = option_map (λ earlier. hand x earlier q) (in_hand acts q)

@@ -7,7 +7,7 @@ use Rattle.vd_model.specs.declared.step.DevStep.TheVariants as line
 use Rattle.vd_model.specs.declared.step.ControlStep.TheVariants as control
 use Rattle.vd_model.specs.declared.step.DriverStep.TheVariants as driver
 use Rattle.vd_model.specs.Setting.{Setting}
-use Rattle.vd_model.specs.Acts.{Act, Node, Driver, Streaming, Daemon_put, Area_made, Registered, Buffer, Mapped, Region_made, Driver_put}
+use Rattle.vd_model.specs.Acts.{Act, Node, Driver, Streaming, Daemon_put, Area_made, Registered, Deregistered, Buffer, Mapped, Region_made, Driver_put}
 use Rattle.vd_model.specs.History.{Entry, History}
 
 -- sixteen slots of bounce memory, so many in a page, and sixteen of coherent memory
@@ -23,7 +23,11 @@ mapped = Driver (Mapped two_bytes) ∷ Driver (Buffer (7 ∷ 8 ∷ [])) ∷ []
 
 -- then the daemon keeps the bounce memory in its area, from byte 0x10000 on
 abbrev pub kept : List Act
-kept = Node (Registered 0x10000 0x10000) ∷ Node (Area_made 0x20000) ∷ mapped
+kept = Node (Registered 0x10000 0x10000) ∷ Node (Area_made 0x21000) ∷ mapped
+
+-- and then keeps it one page further, where the byte of a page that isn't in use is what the area has there
+abbrev pub moved : List Act
+moved = Node (Registered 0x11000 0x10000) ∷ Node Deregistered ∷ kept
 
 -- or stores a byte over the second one
 abbrev pub stored : List Act

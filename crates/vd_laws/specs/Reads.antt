@@ -1,5 +1,5 @@
 -- The law on what a daemon reads.
-use Rattle.std.specs.Prelude.{ℕ, ◌+◌, ◌<◌, List, [], ◌∷◌, ◌++◌, Bool, IsTrue, ◌≡◌, Ok, slice_index}
+use Rattle.std.specs.Prelude.{ℕ, ◌+◌, ◌<◌, List, [], ◌∷◌, ◌++◌, Bool, IsTrue, ◌≡◌, Some, Ok, slice_index}
 use Rattle.vd_model.specs.declared.step.Step.TheVariants.{Device, Queue}
 use Rattle.vd_model.specs.declared.step.DevStep.TheVariants as line
 use Rattle.vd_model.specs.declared.step.AreaStep.TheVariants as area
@@ -15,7 +15,7 @@ use Rattle.vd_model.specs.AreaTurns.{is_accessible}
 use Rattle.vd_model.specs.DaemonTurns.{daemon_memory}
 use Rattle.vd_model.specs.History.{History, outcome, reply, deeds_of}
 use Rattle.vd_laws.specs.Runs.{acts_of}
-use Rattle.vd_laws.specs.Alike.{LooksAlike, KeepsAlike}
+use Rattle.vd_laws.specs.Alike.{LooksAlike, HasSameDisk, KeepsAlike}
 use Rattle.vd_laws.specs.Origins.{Comes, IsReadable, IsAddressOf}
 
 -- the device's acts up to some moment of a history
@@ -53,6 +53,8 @@ pub record ReadLaw (x : Setting) (h : History) : Type 0 where
       → (i : ℕ) → i < len → IsInArea x (acts_of x h d) (at + i) (slice_index bytes i)
   -- what stands at an address came from where its origin says
   pub origins : (d : List ℕ) (acts : List Act) → IsMoment x h d acts → (a : ℕ) → Comes x.per_page acts a (shown x.per_page acts a)
+  -- the block daemon's memory has the bytes of the addresses that can be accessed, and nothing else
+  pub memory : (d : List ℕ) (acts : List Act) → IsMoment x h d acts → (a byte : ℕ) → daemon_memory x acts a ≡ Some byte → IsShown x acts a byte
   -- what the block daemon reads are bytes of addresses that can be accessed
   pub reads : (d : List ℕ) (acts : List Act) → IsMoment x h d acts
       → (at len : ℕ) (bytes : List ℕ) → read (daemon_memory x acts) at len ≡ Ok bytes
@@ -72,3 +74,7 @@ pub record ReadLaw (x : Setting) (h : History) : Type 0 where
   pub finishes : (g : History) (d : List ℕ) (q : ℕ) → LooksAlike x (seen_after x h d) (seen_after x g d) → KeepsAlike x (acts_of x h d) (acts_of x g d) q
       → (failed : Bool)
       → outcome x (deeds_of x h) (Queue d (queue.Finish q)) failed ≡ outcome x (deeds_of x g) (Queue d (queue.Finish q)) failed
+  -- an execute sees none of it: what it does to the disk was read at the fetch
+  pub executes : (g : History) (d : List ℕ) (q : ℕ) → HasSameDisk (seen_after x h d) (seen_after x g d) → KeepsAlike x (acts_of x h d) (acts_of x g d) q
+      → (failed : Bool)
+      → outcome x (deeds_of x h) (Queue d (queue.Execute q)) failed ≡ outcome x (deeds_of x g) (Queue d (queue.Execute q)) failed

@@ -16,7 +16,7 @@ ghost use Rattle.vd_model.specs.History.{History, reply};
 ghost use Rattle.vd_laws.specs.Origins.{IsHanded};
 ghost use Rattle.vd_laws.specs.Alike.{LooksAlike};
 ghost use Rattle.vd_laws.specs.Reads.{ReadLaw, seen_after};
-ghost use Rattle.vd_laws.specs.ReadSamples.{small, mapped, kept, stored, coherent, v, run};
+ghost use Rattle.vd_laws.specs.ReadSamples.{small, mapped, kept, moved, stored, coherent, v, run};
 
 /// What a daemon reads stands at addresses that it can access, and is a zero, a daemon's write or a
 /// byte that the device's own driver handed.
@@ -32,6 +32,7 @@ pub fn instances_of_reading()
     ensures kept_by { IsHanded 1 kept (λ at. at ≡ 0xf001) 8 (Some 0) }
     ensures in_the_area { last_put 1 kept (Area 0x1f001) ≡ record { byte = 8; origin = Handed (Some 0) } }
     ensures given_back { shown 1 (Node Deregistered ∷ kept) 0xf001 ≡ record { byte = 8; origin = Handed (Some 0) } }
+    ensures moved { shown 1 moved 0xe001 ≡ record { byte = 8; origin = Handed (Some 0) } }
     ensures rest_of_a_page { shown 1 mapped 0xf002 ≡ record { byte = 0; origin = Zero } }
     ensures rest_of_a_large_page { shown 16 mapped 0x1000 ≡ record { byte = 0; origin = Zero } }
     ensures stored { shown 1 stored 0xf001 ≡ record { byte = 9; origin = Daemon } }
