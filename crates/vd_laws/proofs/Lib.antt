@@ -25,3 +25,7 @@ pub mod Brought
 pub mod Directs
 pub mod Loads
 pub mod Mapped
+pub mod Origins_of
+pub mod Alike_of
+pub mod Reads_of
+pub mod Samples_of

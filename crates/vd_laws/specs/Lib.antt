@@ -5,3 +5,7 @@ pub mod UsedBytesLaw
 pub mod DirectLaw
 pub mod MemorySamples
 pub mod Presence
+pub mod Origins
+pub mod Alike
+pub mod Reads
+pub mod ReadSamples

@@ -8,9 +8,11 @@
 mod direct;
 mod memory;
 mod presence;
+mod reading;
 mod used;
 
 pub use direct::{direct_transfer, instances_of_direct};
 pub use memory::{driver_memory, instances_of_memory};
 pub use presence::present_pages;
+pub use reading::{instances_of_reading, reads};
 pub use used::{instances_of_used_bytes, used_bytes};

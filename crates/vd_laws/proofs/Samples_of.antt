@@ -1,0 +1,61 @@
+-- The short runs compute.
+use Rattle.std.proofs.Common.{◌≡◌, ℕ, zero, suc, ◌+◌, ◌-◌, ◌<◌, ◌≤◌, ◌&&◌, not, Bool, true, false, refl, ap, arith, None, Some, cond, List, [], ◌∷◌, nat_le, nat_lt}
+use Rattle.std.proofs.lemmas.Bool.{and_parts, leb-true, ltb-true}
+use Rattle.vd_num.specs.Number.{power_from, doubled_to}
+use Rattle.vd_model.specs.declared.step.Step.TheVariants.{Device}
+use Rattle.vd_model.specs.declared.step.DevStep.TheVariants as line
+use Rattle.vd_model.specs.declared.step.AreaStep.TheVariants as area
+use Rattle.vd_model.specs.declared.answer.Answer.TheVariants.{Done}
+use Rattle.vd_model.specs.declared.answer.Item.TheVariants.{Text}
+use Rattle.vd_model.specs.Acts.{Act, Node, Driver, Bus, State, Opened, Attached, Buffer, Mapped}
+use Rattle.vd_model.specs.State.{Max_set}
+use Rattle.vd_model.specs.Place.{greatest, place_of}
+use Rattle.vd_model.specs.Live.{maps_address, page_of, meets_page}
+use Rattle.vd_model.specs.Puts.{ram, shown, last_put, put_or, or_put, handed_if, zero_if, Iova}
+use Rattle.vd_model.specs.AreaTurns.{is_accessible}
+use Rattle.vd_model.specs.DaemonTurns.{daemon_memory}
+use Rattle.vd_model.specs.History.{deeds_of, reply}
+use Rattle.vd_laws.specs.Runs.{acts_of}
+use Rattle.vd_laws.specs.Alike.{LooksAlike}
+use Rattle.vd_laws.specs.Reads.{seen_after}
+use Rattle.vd_laws.specs.ReadSamples.{small, two_bytes, v, run}
+
+pub loaded : (third : ℕ) → reply (small 1) (run third) (Device v (line.Area (area.Load 0xf000 3))) false ≡ Done (Text (7 ∷ 8 ∷ 0 ∷ []) ∷ [])
+unfolding deeds_of place_of greatest power_from doubled_to
+loaded third = refl
+
+-- the acts of the run before the map, and after it
+abbrev before_map : ℕ → List Act
+before_map third = Driver (Buffer (7 ∷ 8 ∷ third ∷ [])) ∷ Bus Attached ∷ State (Max_set 0 256) ∷ Node Opened ∷ []
+
+abbrev after_map : ℕ → List Act
+after_map third = Driver (Mapped two_bytes) ∷ before_map third
+
+acts_are : (third : ℕ) → acts_of (small 1) (run third) v ≡ after_map third
+unfolding deeds_of place_of greatest power_from doubled_to
+acts_are third = refl
+
+first_two : (a b i : ℕ) → i < 2 → ram 1 (before_map a) 0 i ≡ ram 1 (before_map b) 0 i
+first_two a b zero low = refl
+first_two a b (suc zero) low = refl
+first_two a b (suc (suc i)) low = absurd (omega arith)
+
+shown_alike : (a b at : ℕ) → (shown 1 (after_map a) at).byte ≡ (shown 1 (after_map b) at).byte
+shown_alike a b at = by (maps_address two_bytes at) refl (meets_page 1 (page_of 1 at) two_bytes && not false) where
+  by : (c : Bool) → maps_address two_bytes at ≡ c → (zeroed : Bool)
+      → (put_or (or_put (handed_if c (last_put 1 (before_map a)) two_bytes at) (zero_if zeroed)) (last_put 1 (before_map a)) (Iova at)).byte
+      ≡ (put_or (or_put (handed_if c (last_put 1 (before_map b)) two_bytes at) (zero_if zeroed)) (last_put 1 (before_map b)) (Iova at)).byte
+  by true e zeroed =
+      let parts = and_parts (nat_le 61440 at) (nat_lt at (61440 + 2)) e in
+      let low : 61440 ≤ at = leb-true 61440 at parts.0 in
+      let high : at < 61440 + 2 = ltb-true at (61440 + 2) parts.1 in
+      first_two a b (0 + (at - 61440)) (omega arith)
+  by false e true = refl
+  by false e false = refl
+
+memory_alike : (a b at : ℕ) → daemon_memory (small 1) (after_map a) at ≡ daemon_memory (small 1) (after_map b) at
+memory_alike a b at = ap (λ byte. cond (is_accessible (small 1) (after_map a) at) (Some byte) None) (shown_alike a b at)
+
+pub third_alike : (a b : ℕ) → LooksAlike (small 1) (seen_after (small 1) (run a) v) (seen_after (small 1) (run b) v)
+unfolding deeds_of place_of greatest power_from doubled_to
+third_alike a b = record { made = refl; opened = refl; state = refl; memory = λ at. memory_alike a b at }
