@@ -1,0 +1,8 @@
+//! The laws of the history machine, for every history and every device. Each is the contract of a
+//! function that does nothing.
+#![tactic(auto)]
+
+mod alone;
+
+pub use alone::isolation;
+
