@@ -1,1 +1,3 @@
 pub mod Kept
+pub mod Quiet
+pub mod Heard
