@@ -1,9 +1,9 @@
 -- What each line does to the messages of a device is what its turn tested, and what it stores lies in the device's window.
-use Rattle.std.proofs.Common.{◌≡◌, ℕ, zero, suc, ◌+◌, ◌-◌, ◌*◌, ◌/◌, ◌%◌, ◌<◌, ◌≤◌, Bool, true, false, refl, ap, subst, ◌∙◌, sym, arith, Option, None, Some, cond, nat_lt, nat_le, List, [], ◌∷◌, ◌++◌, length, ◌||◌, ◌&&◌, ◌==◌, not, map, find, is_some, if◌then◌else◌, ◌⊎◌, inl, inr}
+use Rattle.std.proofs.Common.{◌≡◌, ℕ, ◌+◌, ◌-◌, ◌*◌, ◌/◌, ◌%◌, ◌≤◌, Bool, true, false, refl, ap, subst, ◌∙◌, sym, arith, Option, None, Some, nat_lt, List, [], ◌∷◌, ◌++◌, length, ◌||◌, ◌==◌, not, if◌then◌else◌}
 use Rattle.std.specs.Option.{option_map_or}
 use Rattle.std.proofs.lemmas.Bool.Decides.{nat_tests}
 use Rattle.vd_num.specs.declared.errno.Errno.{Errno}
-use Rattle.vd_num.specs.declared.errno.Errno.TheVariants.{Noent, Badf, Again, Busy, Exist, Inval, Io, Nospc, Nodev}
+use Rattle.vd_num.specs.declared.errno.Errno.TheVariants.{Noent, Badf, Again, Inval, Io, Nospc, Nodev}
 use Rattle.vd_model.specs.declared.message.Body.{Body}
 use Rattle.vd_model.specs.declared.message.Body.TheVariants as body
 use Rattle.vd_model.specs.declared.message.Message.{Message}
@@ -24,20 +24,20 @@ use Rattle.vd_model.specs.declared.answer.Item.{Item}
 use Rattle.vd_model.specs.declared.answer.Item.TheVariants.{Word, Number}
 use Rattle.vd_model.specs.Setting.{Setting}
 use Rattle.vd_model.specs.Creation.{Creation, has_feature}
-use Rattle.vd_model.specs.Acts.{Act, NodeAct, Node, Driver, Bus, Closed, Queue, Message_act, State, Disk, Stored, Executed, message_acts, state_acts}
+use Rattle.vd_model.specs.Acts.{Act, NodeAct, Node, Driver, Bus, Closed, Queue, Message_act, State, Disk, Stored, message_acts}
 use Rattle.vd_model.specs.State.{Cleared, Status_set}
-use Rattle.vd_model.specs.Live.{is_open, is_attached, registered, Registration}
+use Rattle.vd_model.specs.Live.{is_open, registered, Registration}
 use Rattle.vd_model.specs.Messages.{MessageAct, Sent, Received, Answered, Lost, Timed, Took, next, next_id, is_held, is_broken, told, message_of, id_limit}
-use Rattle.vd_model.specs.Raw.{Ioctl, Plain_node, Plain_area, Find_entry, Find_info, Tell_features, ioctl_of, response_step}
+use Rattle.vd_model.specs.Raw.{Ioctl, Plain_node, Plain_area, Find_entry, Find_info, Tell_features, ioctl_of}
 use Rattle.vd_model.specs.Turn.{Turn, refused, refuse, given, lift}
 use Rattle.vd_model.specs.Block as block
 use Rattle.vd_model.specs.Puts.{each_from}
-use Rattle.vd_model.specs.DaemonTurns.{stored, executed_turn, execute_hand, execute_turn, Hand}
-use Rattle.vd_model.specs.BusTurns.{done_with, device_start, send_turn, reset_turn, taken, asks_reset, done_turn, take_turn, attached_turn, bus_turn}
-use Rattle.vd_model.specs.NodeTurns.{ended, close_turn, received_as, answered_with, response_turn, write_turn, plain_turn, ioctl_turn, open_node_turn, node_turn}
+use Rattle.vd_model.specs.DaemonTurns.{executed_turn, execute_hand, execute_turn, Hand}
+use Rattle.vd_model.specs.BusTurns.{done_with, device_start, send_turn, reset_turn, taken, asks_reset, take_turn, attached_turn, bus_turn}
+use Rattle.vd_model.specs.NodeTurns.{ended, close_turn, received_as, answered_with, response_turn, plain_turn, ioctl_turn, open_node_turn, node_turn}
 use Rattle.vd_model.specs.Deeds.{Seen}
 use Rattle.vd_model.specs.History.{dev_turn, queue_turn, device_turn, device_queue_turn, disk_of}
-use Rattle.vd_laws.proofs.Quiet.{is_quiet, are_quiet, Quiet, append_quiet, nodes_quiet, drivers_quiet, message_acts-append, quiet_unheard, refuse_quiet, option_quiet, if_quiet, walk_quiet, fetch_quiet, finish_quiet, ring_quiet, unring_quiet, add_quiet, publish_quiet, submit_quiet, poll_quiet}
+use Rattle.vd_laws.proofs.Quiet.{are_quiet, Quiet, nodes_quiet, drivers_quiet, message_acts-append, quiet_unheard, refuse_quiet, option_quiet, walk_quiet, fetch_quiet, finish_quiet, ring_quiet, unring_quiet, add_quiet, publish_quiet, submit_quiet, poll_quiet}
 
 -- ---- acts that a turn may make
 
@@ -87,10 +87,14 @@ said_fits room (Queue other ∷ front) rest act h k = said_fits room front rest 
 unheard_after : (acts done : List Act) → message_acts acts ≡ [] → message_acts (acts ++ done) ≡ message_acts done
 unheard_after acts done h = message_acts-append acts done ∙ ap (λ l. l ++ message_acts done) h
 
-heard_after : (front rest done : List Act) (act : MessageAct) → are_quiet front ≡ true → are_quiet rest ≡ true → message_acts ((front ++ Message_act act ∷ rest) ++ done) ≡ act ∷ message_acts done
+pub heard_after : (front rest done : List Act) (act : MessageAct) → are_quiet front ≡ true → are_quiet rest ≡ true → message_acts ((front ++ Message_act act ∷ rest) ++ done) ≡ act ∷ message_acts done
 heard_after front rest done act h k =
     message_acts-append (front ++ Message_act act ∷ rest) done
     ∙ ap (λ l. l ++ message_acts done) (message_acts-append front (Message_act act ∷ rest) ∙ (ap (λ l. l ++ act ∷ message_acts rest) (quiet_unheard front h) ∙ ap (λ l. act ∷ l) (quiet_unheard rest k)))
+
+pub ended_quiet : (o : Option Registration) → are_quiet (ended o) ≡ true
+ended_quiet None = refl
+ended_quiet (Some r) = refl
 
 -- ---- turns
 
@@ -121,10 +125,6 @@ module _ (room : ℕ) (done : List Act) where
   lifted_fair turn = quiet_fair (lift Node turn) (nodes_quiet turn.acts)
 
   -- ---- the node
-
-  ended_quiet : (o : Option Registration) → are_quiet (ended o) ≡ true
-  ended_quiet None = refl
-  ended_quiet (Some r) = refl
 
   close_fair : Fair room done (close_turn done)
   close_fair = said_fair (Done []) [] (Node Closed ∷ ended (registered done)) Lost refl (ended_quiet (registered done)) tt
@@ -195,7 +195,7 @@ module _ (room : ℕ) (done : List Act) where
   send_fair : (now : ℕ) (says : Body) → Fair room done (send_turn now done says)
   send_fair now says =
       let sent : Fair room done (done_with (Word Id ∷ Number (next_id device_start (message_acts done)) ∷ []) (Message_act (Sent (message_of device_start (message_acts done) says now)) ∷ []))
-          = said_fair (Done (Word Id ∷ Number (next_id device_start (message_acts done)) ∷ [])) [] [] (Sent (message_of device_start (message_acts done) says now)) refl refl refl in
+      = said_fair (Done (Word Id ∷ Number (next_id device_start (message_acts done)) ∷ [])) [] [] (Sent (message_of device_start (message_acts done) says now)) refl refl refl in
       refuse_fair (given (is_broken (message_acts done)) Io) _ (refuse_fair (given (next_id device_start (message_acts done) == id_limit) Nospc) _ sent)
 
   reset_fair : (now : ℕ) → Fair room done (reset_turn now done)
@@ -250,6 +250,7 @@ stores_inside disk b failed h = by (b.kind == 0) (b.kind == 1) (b.kind == 4) (b.
   reads : (c : Bool) → (if c then block.ends_with b 1 else record { status = 0; bytes = each_from disk.byte (512 * b.sector) (b.writable - 1); stores = false }).stores ≡ true → 512 * b.sector + length b.payload ≤ 512 * disk.sectors
   reads true e = cc
   reads false e = cc
+
   writes : (whole past ro f : Bool) → (length b.payload % 512 == 0) ≡ whole → nat_lt disk.sectors (b.sector + length b.payload / 512) ≡ past
       → (if (not whole || past) || ro || f then block.ends_with b 1 else record { status = 0; bytes = block.zeros_for b; stores = true }).stores ≡ true → 512 * b.sector + length b.payload ≤ 512 * disk.sectors
   writes false past ro f e g k = cc
@@ -257,9 +258,11 @@ stores_inside disk b failed h = by (b.kind == 0) (b.kind == 1) (b.kind == 4) (b.
   writes true false true f e g k = cc
   writes true false false true e g k = cc
   writes true false false false e g k = grind (arith, nat_tests, e, g)
+
   names : (c : Bool) → (if not c then block.ends_with b 1 else record { status = 0; bytes = block.id_bytes disk.name; stores = false }).stores ≡ true → 512 * b.sector + length b.payload ≤ 512 * disk.sectors
   names true e = cc
   names false e = cc
+
   by : (in_kind out flush id : Bool) → (if in_kind then block.read_result disk b failed else if out then block.write_result disk b failed else if flush then block.ends_with b (block.status_of failed) else if id then block.id_result disk b else block.ends_with b 2).stores ≡ true
       → 512 * b.sector + length b.payload ≤ 512 * disk.sectors
   by true out flush id e = reads _ e

@@ -1,5 +1,5 @@
 -- What a device's lines may look at is made by the entries of its part alone.
-use Rattle.std.proofs.Common.{◌≡◌, ℕ, ◌+◌, ◌*◌, ◌^◌, Bool, true, false, refl, ap, subst, ◌∙◌, sym, Option, None, Some, cond, nat_lt, nat_le, List, [], ◌∷◌, ◌++◌, ◌||◌, ◌&&◌, not, map, is_some, ◌==◌}
+use Rattle.std.proofs.Common.{◌≡◌, ◌⊎◌, inl, inr, ℕ, ◌+◌, ◌*◌, ◌^◌, Bool, true, false, refl, ap, subst, ◌∙◌, sym, Option, None, Some, cond, nat_lt, nat_le, List, [], ◌∷◌, ◌++◌, ◌||◌, ◌&&◌, not, map, is_some, ◌==◌}
 use Rattle.std.specs.Option.{option_map_or}
 use Rattle.std.specs.Str.{bytes_eq}
 use Rattle.std.proofs.lemmas.Slice.Eq.{bytes_eq-Decides}
@@ -153,7 +153,7 @@ raw_does x done (Some (control.Tick seconds)) = plain_does x done (control.Tick 
 raw_does x done (Some (control.Image name first count)) = plain_does x done (control.Image name first count)
 raw_does x done (Some (control.Control number bytes)) = refl
 
-control_does : (x : Setting) (done : List Deed) (step : ControlStep) → Does (control_outcome x done step) (control_granted (clock done) step)
+pub control_does : (x : Setting) (done : List Deed) (step : ControlStep) → Does (control_outcome x done step) (control_granted (clock done) step)
 control_does x done (control.Control number bytes) = raw_does x done (control_step number bytes)
 control_does x done control.Version = refl
 control_does x done (control.SetVersion version) = plain_does x done (control.SetVersion version)
@@ -190,18 +190,21 @@ control_kept d now (control.Dev name) k h = granted_kept d now (control.Dev name
 control_kept d now (control.Tick seconds) k h = cc
 control_kept d now (control.Image name first count) k h = granted_kept d now (control.Image name first count) k h
 
+pub if_done_either : (answer : Answer) (deeds : List Deed) → (if_done answer deeds ≡ deeds) ⊎ (if_done answer deeds ≡ [])
+if_done_either (Done items) deeds = inl refl
+if_done_either (Err errno) deeds = inr refl
+if_done_either (Bus at) deeds = inr refl
+if_done_either (Chain fault) deeds = inr refl
+if_done_either (Shape readable writable) deeds = inr refl
+if_done_either (Ahead found known) deeds = inr refl
+if_done_either (UsedAhead used published) deeds = inr refl
+if_done_either (BadId id) deeds = inr refl
+if_done_either Pending deeds = inr refl
+if_done_either (FailedReply result) deeds = inr refl
+if_done_either (FailedTimeout deadline now) deeds = inr refl
+
 if_done_kept : (d : List ℕ) (answer : Answer) (deeds : List Deed) (k : Kept) → with_deeds d deeds k ≡ k → with_deeds d (if_done answer deeds) k ≡ k
-if_done_kept d (Done items) deeds k h = h
-if_done_kept d (Err errno) deeds k h = refl
-if_done_kept d (Bus at) deeds k h = refl
-if_done_kept d (Chain fault) deeds k h = refl
-if_done_kept d (Shape readable writable) deeds k h = refl
-if_done_kept d (Ahead found known) deeds k h = refl
-if_done_kept d (UsedAhead used published) deeds k h = refl
-if_done_kept d (BadId id) deeds k h = refl
-if_done_kept d Pending deeds k h = refl
-if_done_kept d (FailedReply result) deeds k h = refl
-if_done_kept d (FailedTimeout deadline now) deeds k h = refl
+if_done_kept d answer deeds k h = elim (if_done_either answer deeds) [ inl e ↦ ap (λ l. with_deeds d l k) e ∙ h | inr e ↦ ap (λ l. with_deeds d l k) e ]
 
 -- ---- a step
 

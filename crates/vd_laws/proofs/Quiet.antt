@@ -1,28 +1,23 @@
 -- Lines that make no act on messages and store nothing on the disk.
-use Rattle.std.proofs.Common.{◌≡◌, ℕ, zero, suc, ◌+◌, ◌*◌, ◌%◌, ◌<◌, ◌≤◌, Bool, true, false, refl, ap, subst, ◌∙◌, sym, Option, None, Some, cond, nat_lt, nat_le, List, [], ◌∷◌, ◌++◌, length, take, drop, ◌||◌, ◌&&◌, ◌==◌, not, map, find, is_some, if◌then◌else◌}
+use Rattle.std.proofs.Common.{◌≡◌, ℕ, zero, suc, Bool, true, false, refl, ap, ◌∙◌, Option, None, Some, List, [], ◌∷◌, ◌++◌, take, drop, ◌&&◌, ◌==◌, map, find, if◌then◌else◌}
 use Rattle.std.specs.Prelude.{Result, Ok, Err}
 use Rattle.std.specs.List.{list_all}
 use Rattle.std.specs.Option.{option_map_or}
 use Rattle.std.proofs.lemmas.List.Folds.{list_all-append}
 use Rattle.vd_num.specs.declared.errno.Errno.{Errno}
-use Rattle.vd_num.specs.declared.errno.Errno.TheVariants.{Noent, Again, Busy, Exist, Inval, Nospc}
 use Rattle.vd_model.specs.declared.queue.RingPlace.{RingPlace}
 use Rattle.vd_model.specs.declared.parts.Part.{Part}
 use Rattle.vd_model.specs.declared.parts.Chain.{Chain}
-use Rattle.vd_model.specs.declared.answer.Answer.{Answer}
 use Rattle.vd_model.specs.declared.step.SubmitForm.{SubmitForm}
-use Rattle.vd_model.specs.declared.answer.Item.{Item}
 use Rattle.vd_model.specs.Setting.{Setting}
 use Rattle.vd_model.specs.Creation.{Creation}
 use Rattle.vd_model.specs.Live.{live, live_regions}
 use Rattle.vd_model.specs.Rings.{next16, number16, used_event_at, available_event_at}
 use Rattle.vd_model.specs.Raw.{little_bytes}
 use Rattle.vd_model.specs.Acts.{Act, NodeAct, DriverAct, Daemon_put, Driver_put, Mapped, Fetched, Unmapped, Region_freed, Streaming, Coherent, Added, Request, Node, Driver, Bus, Message_act, State, Queue, Disk, message_acts}
-use Rattle.vd_model.specs.Messages.{MessageAct}
-use Rattle.vd_model.specs.Memory.{Memory, read}
+use Rattle.vd_model.specs.Memory.{Memory}
 use Rattle.vd_model.specs.Trace.{Ending, whole, faulty, missing}
-use Rattle.vd_model.specs.Turn.{Turn, refused, refuse, given, lift}
-use Rattle.vd_model.specs.BusTurns.{done_with, is_missing}
+use Rattle.vd_model.specs.Turn.{Turn, refuse}
 use Rattle.vd_model.specs.Queues.{Ring, out, Executed_as}
 use Rattle.vd_model.specs.DaemonTurns as daemon
 use Rattle.vd_model.specs.RingTurns as ring

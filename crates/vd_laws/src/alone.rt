@@ -1,6 +1,5 @@
 //! What other devices do doesn't show.
 
-ghost use Rattle.std.specs.Prelude.{ℕ, List};
 ghost use Rattle.vd_model.specs.Setting.{Setting};
 ghost use Rattle.vd_model.specs.History.{History};
 ghost use Rattle.vd_laws.specs.IsolationLaw.{IsolationLaw};
@@ -8,5 +7,5 @@ ghost use Rattle.vd_laws.specs.IsolationLaw.{IsolationLaw};
 /// Two histories that agree on a device answer each line on it alike, but for the lines in which
 /// all devices share a limit.
 pub fn isolation()
-    ensures { (x : Setting) (h : History) (d : List ℕ) → IsolationLaw x h d }
+    ensures { (x : Setting) (h : History) → IsolationLaw x h }
 {}

@@ -3,6 +3,7 @@
 #![tactic(auto)]
 
 mod alone;
+mod told;
 
 pub use alone::isolation;
-
+pub use told::messages;
