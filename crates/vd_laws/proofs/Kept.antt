@@ -121,7 +121,7 @@ new_does done name o deeds h =
     refuse_does (given (is_there name done) Exist) (refuse_all (given (nat_le 8 (devices done)) Nospc) o) deeds
     (refuse_does (given (nat_le 8 (devices done)) Nospc) o deeds h)
 
-plain_does : (x : Setting) (done : List Deed) (step : ControlStep) → Does (plain_outcome x done step) (granted (clock done) step)
+pub plain_does : (x : Setting) (done : List Deed) (step : ControlStep) → Does (plain_outcome x done step) (granted (clock done) step)
 plain_does x done control.Version = refl
 plain_does x done (control.SetVersion version) = refuse_does (given (nat_lt 0 version) Inval) (done_with [] []) [] refl
 plain_does x done (control.Create name vendor device features queues align config) =

@@ -5,3 +5,4 @@ pub mod Searches
 pub mod MessageRuns
 pub mod Histories
 pub mod MessageAnswers
+pub mod Content

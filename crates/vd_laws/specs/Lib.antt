@@ -1,3 +1,4 @@
 pub mod Among
 pub mod IsolationLaw
 pub mod MessageLaw
+pub mod ImageLaw

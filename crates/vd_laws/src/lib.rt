@@ -4,6 +4,8 @@
 
 mod alone;
 mod told;
+mod windows;
 
 pub use alone::isolation;
 pub use told::messages;
+pub use windows::image_content;
