@@ -6,3 +6,4 @@ pub mod MessageRuns
 pub mod Histories
 pub mod MessageAnswers
 pub mod Content
+pub mod Instances

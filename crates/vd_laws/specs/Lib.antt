@@ -2,3 +2,6 @@ pub mod Among
 pub mod IsolationLaw
 pub mod MessageLaw
 pub mod ImageLaw
+pub mod Small
+pub mod MessageInstances
+pub mod IsolationInstances

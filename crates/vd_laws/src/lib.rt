@@ -6,6 +6,6 @@ mod alone;
 mod told;
 mod windows;
 
-pub use alone::isolation;
-pub use told::messages;
+pub use alone::{isolation, isolation_instances};
+pub use told::{message_instances, messages};
 pub use windows::image_content;
