@@ -31,7 +31,7 @@ use Rattle.vd_model.specs.Deeds.{Seen, seen, own}
 use Rattle.vd_model.specs.History.{History, deeds_of, reply, device_turn}
 use Rattle.vd_laws.specs.MessageLaw.{heard, after, Receives, Accepted, Broken, DeviceMessages}
 use Rattle.vd_laws.proofs.Heard.{Legal, heard_after, ended_quiet}
-use Rattle.vd_laws.proofs.MessageRuns.{legal_once, legal_ascends, next_is, none_next, next_held, each_next, each_held, comes_again, told_reply, told_late}
+use Rattle.vd_laws.proofs.MessageRuns.{legal_once, legal_ascends, next_is, none_next, next_held, each_next, each_held, comes_again, Says, told_says}
 use Rattle.vd_laws.proofs.Histories.{history_legal, step_heard}
 
 -- ---- receives
@@ -115,28 +115,37 @@ module _ (x : Setting) (h : History) (d : List ℕ) where
     by (Some m) f = f
 
   reply_fails : (id : ℕ) (failed : Bool) (result : ℕ) → reply x h (Device d (Bus (Take id))) failed ≡ FailedReply result → (result ≢ 0) × Accepted (heard x h d) id result
-  reply_fails id failed result e = by (told (heard x h d) id) refl (taken_answer id failed (FailedReply result) (λ f. cc) e) where
-    by : (t : TakeAnswer) → told (heard x h d) id ≡ t → (take_turn id t).answer ≡ FailedReply result → (result ≢ 0) × Accepted (heard x h d) id result
-    by end.Pending f g = cc
-    by end.Unknown f g = cc
-    by (end.Done (body.Status value) avail) f g = cc
-    by (end.Done (body.VqState index) avail) f g = cc
-    by (end.Done (body.Iotlb range) avail) f g = cc
-    by (end.FailedByReply says r) f g = let is : r ≡ result = cc in told_reply (heard x h d) id result says (f ∙ ap (end.FailedByReply says) is)
-    by (end.FailedByTimeout says deadline now) f g = cc
+  reply_fails id failed result e = by (told (heard x h d) id) (told_says (heard x h d) id) (taken_answer id failed (FailedReply result) (λ f. cc) e) where
+    by : (t : TakeAnswer) → Says (heard x h d) id t → (take_turn id t).answer ≡ FailedReply result → (result ≢ 0) × Accepted (heard x h d) id result
+    by end.Pending s g = cc
+    by end.Unknown s g = cc
+    by (end.Done (body.Status value) avail) s g = cc
+    by (end.Done (body.VqState index) avail) s g = cc
+    by (end.Done (body.Iotlb range) avail) s g = cc
+    by (end.FailedByReply says r) s g = let is : r ≡ result = cc in subst (λ r. (r ≢ 0) × Accepted (heard x h d) id r) is s
+    by (end.FailedByTimeout says deadline now) s g = cc
 
   time_fails : (id : ℕ) (failed : Bool) (deadline now : ℕ) → reply x h (Device d (Bus (Take id))) failed ≡ FailedTimeout deadline now → Broken (heard x h d) id deadline now
-  time_fails id failed deadline now e = by (told (heard x h d) id) refl (taken_answer id failed (FailedTimeout deadline now) (λ f. cc) e) where
-    by : (t : TakeAnswer) → told (heard x h d) id ≡ t → (take_turn id t).answer ≡ FailedTimeout deadline now → Broken (heard x h d) id deadline now
-    by end.Pending f g = cc
-    by end.Unknown f g = cc
-    by (end.Done (body.Status value) avail) f g = cc
-    by (end.Done (body.VqState index) avail) f g = cc
-    by (end.Done (body.Iotlb range) avail) f g = cc
-    by (end.FailedByReply says r) f g = cc
-    by (end.FailedByTimeout says a b) f g =
+  time_fails id failed deadline now e = by (told (heard x h d) id) (told_says (heard x h d) id) (taken_answer id failed (FailedTimeout deadline now) (λ f. cc) e) where
+    by : (t : TakeAnswer) → Says (heard x h d) id t → (take_turn id t).answer ≡ FailedTimeout deadline now → Broken (heard x h d) id deadline now
+    by end.Pending s g = cc
+    by end.Unknown s g = cc
+    by (end.Done (body.Status value) avail) s g = cc
+    by (end.Done (body.VqState index) avail) s g = cc
+    by (end.Done (body.Iotlb range) avail) s g = cc
+    by (end.FailedByReply says r) s g = cc
+    by (end.FailedByTimeout says a b) s g =
         let one : a ≡ deadline = cc in let two : b ≡ now = cc in
-        told_late (heard x h d) id deadline now says (f ∙ (ap (λ a. end.FailedByTimeout says a b) one ∙ ap (end.FailedByTimeout says deadline) two))
+        subst (λ n. Broken (heard x h d) id deadline n) two (subst (λ k. Broken (heard x h d) id k b) one s)
+
+  done_answered : (id : ℕ) (failed : Bool) (items : List Item) → reply x h (Device d (Bus (Take id))) failed ≡ Done items → Accepted (heard x h d) id 0
+  done_answered id failed items e = by (told (heard x h d) id) (told_says (heard x h d) id) (taken_answer id failed (Done items) (λ f. cc) e) where
+    by : (t : TakeAnswer) → Says (heard x h d) id t → (take_turn id t).answer ≡ Done items → Accepted (heard x h d) id 0
+    by end.Pending s g = cc
+    by end.Unknown s g = cc
+    by (end.Done says avail) s g = s
+    by (end.FailedByReply says r) s g = cc
+    by (end.FailedByTimeout says deadline now) s g = cc
 
 -- ---- the law
 
@@ -160,5 +169,6 @@ message_law x h d = let legal : Legal (heard x h d) = history_legal x h d in rec
   kept = λ failed e. ap outstanding (close_heard x h d failed e);
   again = λ later since before id split. comes_again (heard x h d) later since before id legal split;
   replied = λ failed id result e. reply_fails x h d id failed result e;
+  done = λ failed id items e. done_answered x h d id failed items e;
   late = λ failed id deadline now e. time_fails x h d id failed deadline now e;
 }

@@ -5,12 +5,14 @@ use Rattle.std.proofs.lemmas.Bool.{eqb-false, not-true}
 use Rattle.std.proofs.lemmas.Bool.Decides.{nat_tests}
 use Rattle.vd_model.specs.declared.message.Body.{Body}
 use Rattle.vd_model.specs.declared.message.Message.{Message}
+use Rattle.vd_model.specs.declared.message.TakeAnswer.{TakeAnswer}
 use Rattle.vd_model.specs.declared.message.TakeAnswer.TheVariants as end
 use Rattle.vd_model.specs.Messages.{MessageAct, Sent, Received, Answered, Lost, Timed, Took, Elapsed, next_id, outstanding, outstanding_as, is_other, is_held, is_received, is_due, deadline_of, least, least_due, breaks, next, told, replied, timed_out, answers_to}
 use Rattle.vd_model.specs.BusTurns.{device_start}
 use Rattle.vd_laws.specs.Among.{Among}
 use Rattle.vd_laws.specs.MessageLaw.{Ascend, IsNext, Accepted, Broken}
-use Rattle.vd_laws.proofs.Searches.{pushed, filtered, found, missed, finds}
+use Rattle.vd_laws.proofs.Lists.{pushed, filtered}
+use Rattle.vd_laws.proofs.Searches.{missed, finds, found_there}
 use Rattle.vd_laws.proofs.Heard.{Legal}
 
 -- ---- ascending ids
@@ -64,7 +66,7 @@ held_message : (acts : List MessageAct) (id : ℕ) → is_held acts id ≡ true 
 held_message acts id held = by (outstanding_as acts id) refl held where
   by : (o : Option Message) → find (λ m. m.id == id) (outstanding acts) ≡ o → (is_some o && is_received acts id) ≡ true → (m : Message) × Among m (outstanding acts) × (m.id ≡ id)
   by None e h = cc
-  by (Some m) e h = let f = found (λ m. m.id == id) m (outstanding acts) e in (m, f.0, eqb-true m.id id f.1)
+  by (Some m) e h = let f = found_there (λ m. m.id == id) m (outstanding acts) e in (m, f.0, eqb-true m.id id f.1)
 
 answered_heard : (id result avail : ℕ) (acts : List MessageAct) → is_held acts id ≡ true → IsHeard acts → IsHeard (Answered id result avail ∷ acts)
 answered_heard id result avail acts held h = record {
@@ -136,7 +138,7 @@ held_is acts m there = ap (λ b. b && is_received acts m.id) (finds (λ k. k.id 
 
 pub next_is : (acts : List MessageAct) (m : Message) → Legal acts → next acts ≡ Some m → IsNext acts m
 next_is acts m legal e =
-    let f = found (λ k. not (is_received acts k.id)) m (outstanding acts) e in
+    let f = found_there (λ k. not (is_received acts k.id)) m (outstanding acts) e in
     record {
       waits = f.0;
       unheld = held_is acts m f.0 ∙ not-true (is_received acts m.id) f.1;
@@ -152,7 +154,7 @@ none_next acts e k there = held_is acts k there ∙ by (is_received acts k.id) (
 -- the next message is held once it is received
 pub next_held : (acts : List MessageAct) (m : Message) → next acts ≡ Some m → is_held (Received m.id ∷ acts) m.id ≡ true
 next_held acts m e =
-    let f = found (λ k. not (is_received acts k.id)) m (outstanding acts) e in
+    let f = found_there (λ k. not (is_received acts k.id)) m (outstanding acts) e in
     held_is (Received m.id ∷ acts) m f.0 ∙ ap (λ b. b || is_received acts m.id) (eq-eqb m.id m.id refl)
 
 pub each_next : (acts later earlier : List MessageAct) (id : ℕ) → Legal acts → acts ≡ later ++ Received id ∷ earlier → (m : Message) × IsNext earlier m × (m.id ≡ id)
@@ -181,43 +183,7 @@ comes_again acts later since before id legal split k there unreceived =
     let n = each_next acts later (since ++ Lost ∷ before) id legal split in
     subst (λ i. i ≤ k.id) n.2 (n.1.least k there (held_is (since ++ Lost ∷ before) k there ∙ (since_received since before k.id ∙ unreceived)))
 
--- ---- failures
-
--- the last act doesn't matter
-one_later : (act : MessageAct) (acts : List MessageAct) (id result : ℕ) → Accepted acts id result → Accepted (act ∷ acts) id result
-one_later act acts id result a = record { later = act ∷ a.later; avail = a.avail; earlier = a.earlier; split = ap (λ l. act ∷ l) a.split }
-
-pub told_reply : (acts : List MessageAct) (id result : ℕ) (says : Body) → told acts id ≡ end.FailedByReply says result → (result ≢ 0) × Accepted acts id result
-told_reply [] id result says e = cc
-told_reply (Sent m ∷ acts) id result says e = by (m.id == id) e (told_reply acts id result says) where
-  by : (b : Bool) → (if b then end.Pending else told acts id) ≡ end.FailedByReply says result → (told acts id ≡ end.FailedByReply says result → (result ≢ 0) × Accepted acts id result) → (result ≢ 0) × Accepted (Sent m ∷ acts) id result
-  by true f rest = cc
-  by false f rest = let r = rest f in (r.0, one_later (Sent m) acts id result r.1)
-told_reply (Answered k r avail ∷ acts) id result says e = by (k == id) refl (outstanding_as acts id) e (told_reply acts id result says) where
-  this : (b : Bool) → (r == 0) ≡ b → (m : Message) → (if b then end.Done m.body avail else end.FailedByReply m.body r) ≡ end.FailedByReply says result → k ≡ id → (result ≢ 0) × Accepted (Answered k r avail ∷ acts) id result
-  this true zero m f same = cc
-  this false zero m f same =
-      let is : r ≡ result = cc in
-      (λ z. eqb-false r 0 zero (is ∙ z), subst (λ i. Accepted (Answered k r avail ∷ acts) i result) same (subst (λ n. Accepted (Answered k r avail ∷ acts) k n) is (record { later = []; avail = avail; earlier = acts; split = refl })))
-
-  by : (b : Bool) → (k == id) ≡ b → (o : Option Message) → (if b then option_map_or (λ m. replied m r avail) o (told acts id) else told acts id) ≡ end.FailedByReply says result
-      → (told acts id ≡ end.FailedByReply says result → (result ≢ 0) × Accepted acts id result) → (result ≢ 0) × Accepted (Answered k r avail ∷ acts) id result
-  by true same None f rest = let r = rest f in (r.0, one_later (Answered k _ avail) acts id result r.1)
-  by true same (Some m) f rest = this (r == 0) refl m f (eqb-true k id same)
-  by false same o f rest = let r = rest f in (r.0, one_later (Answered k _ avail) acts id result r.1)
-told_reply (Elapsed now ∷ acts) id result says e = by (least_due now (outstanding acts)) (outstanding_as acts id) e (told_reply acts id result says) where
-  by : (o : Option ℕ) (m : Option Message) → timed_out o m now (told acts id) ≡ end.FailedByReply says result
-      → (told acts id ≡ end.FailedByReply says result → (result ≢ 0) × Accepted acts id result) → (result ≢ 0) × Accepted (Elapsed now ∷ acts) id result
-  by (Some deadline) (Some m) f rest = cc
-  by (Some deadline) None f rest = let r = rest f in (r.0, one_later (Elapsed now) acts id result r.1)
-  by None m f rest = let r = rest f in (r.0, one_later (Elapsed now) acts id result r.1)
-told_reply (Took k ∷ acts) id result says e = by (k == id) e (told_reply acts id result says) where
-  by : (b : Bool) → (if b then end.Unknown else told acts id) ≡ end.FailedByReply says result → (told acts id ≡ end.FailedByReply says result → (result ≢ 0) × Accepted acts id result) → (result ≢ 0) × Accepted (Took k ∷ acts) id result
-  by true f rest = cc
-  by false f rest = let r = rest f in (r.0, one_later (Took k) acts id result r.1)
-told_reply (Timed seconds ∷ acts) id result says e = let r = told_reply acts id result says e in (r.0, one_later (Timed seconds) acts id result r.1)
-told_reply (Received k ∷ acts) id result says e = let r = told_reply acts id result says e in (r.0, one_later (Received k) acts id result r.1)
-told_reply (Lost ∷ acts) id result says e = let r = told_reply acts id result says e in (r.0, one_later Lost acts id result r.1)
+-- ---- the ends of messages
 
 -- an outstanding message was sent
 record WasSent (m : Message) (acts : List MessageAct) : Type 0 where
@@ -308,22 +274,9 @@ least_due_is now (m ∷ ms) deadline e = by (is_due now m) refl (least_due now m
               least = λ k j due. elim j [ inl e ↦ (let eq : deadline_of k ≡ deadline_of m = ap deadline_of e in omega arith) | inr i ↦ (let l = r.least k i due in omega arith) ];
             }
 
-one_more : (act : MessageAct) (acts : List MessageAct) (id deadline now : ℕ) → Broken acts id deadline now → Broken (act ∷ acts) id deadline now
-one_more act acts id deadline now b = record {
-  which = b.which;
-  same = b.same;
-  later = act ∷ b.later;
-  between = b.between;
-  earlier = b.earlier;
-  split = ap (λ l. act ∷ l) b.split;
-  waits = b.waits;
-  due = b.due;
-  least = b.least;
-}
-
 this_tick : (acts : List MessageAct) (id deadline now : ℕ) (m : Message) → outstanding_as acts id ≡ Some m → least_due now (outstanding acts) ≡ Some deadline → Broken (Elapsed now ∷ acts) id deadline now
 this_tick acts id deadline now m e f =
-    let g = found (λ k. k.id == id) m (outstanding acts) e in
+    let g = found_there (λ k. k.id == id) m (outstanding acts) e in
     let l = least_due_is now (outstanding acts) deadline f in
     let w = was_sent acts m g.0 in
     record {
@@ -338,35 +291,64 @@ this_tick acts id deadline now m e f =
       least = subst (λ a. (k : Message) → Among k (outstanding a) → is_due now k ≡ true → deadline ≤ deadline_of k) w.split l.least;
     }
 
-pub told_late : (acts : List MessageAct) (id deadline now : ℕ) (says : Body) → told acts id ≡ end.FailedByTimeout says deadline now → Broken acts id deadline now
-told_late [] id deadline now says e = cc
-told_late (Sent m ∷ acts) id deadline now says e = by (m.id == id) e (told_late acts id deadline now says) where
-  by : (b : Bool) → (if b then end.Pending else told acts id) ≡ end.FailedByTimeout says deadline now → (told acts id ≡ end.FailedByTimeout says deadline now → Broken acts id deadline now) → Broken (Sent m ∷ acts) id deadline now
-  by true f rest = cc
-  by false f rest = one_more (Sent m) acts id deadline now (rest f)
-told_late (Answered k r avail ∷ acts) id deadline now says e = by (k == id) (outstanding_as acts id) e (told_late acts id deadline now says) where
-  this : (b : Bool) (m : Message) → (if b then end.Done m.body avail else end.FailedByReply m.body r) ≡ end.FailedByTimeout says deadline now → Broken (Answered k r avail ∷ acts) id deadline now
-  this true m f = cc
-  this false m f = cc
+-- what a take tells of an id is so
+abbrev pub Says : List MessageAct → ℕ → TakeAnswer → Type 0
+Says acts id (end.Done says avail) = Accepted acts id 0
+Says acts id (end.FailedByReply says result) = (result ≢ 0) × Accepted acts id result
+Says acts id (end.FailedByTimeout says deadline now) = Broken acts id deadline now
+Says acts id _ = Unit {0}
 
-  by : (b : Bool) (o : Option Message) → (if b then option_map_or (λ m. replied m r avail) o (told acts id) else told acts id) ≡ end.FailedByTimeout says deadline now
-      → (told acts id ≡ end.FailedByTimeout says deadline now → Broken acts id deadline now) → Broken (Answered k r avail ∷ acts) id deadline now
-  by true None f rest = one_more (Answered k r avail) acts id deadline now (rest f)
-  by true (Some m) f rest = this (r == 0) m f
-  by false o f rest = one_more (Answered k r avail) acts id deadline now (rest f)
-told_late (Elapsed t ∷ acts) id deadline now says e = by (least_due t (outstanding acts)) refl (outstanding_as acts id) refl e (told_late acts id deadline now says) where
-  by : (o : Option ℕ) → least_due t (outstanding acts) ≡ o → (m : Option Message) → outstanding_as acts id ≡ m → timed_out o m t (told acts id) ≡ end.FailedByTimeout says deadline now
-      → (told acts id ≡ end.FailedByTimeout says deadline now → Broken acts id deadline now) → Broken (Elapsed t ∷ acts) id deadline now
-  by (Some d) g (Some m) k f rest =
-      let one : d ≡ deadline = cc in
-      let two : t ≡ now = cc in
-      subst (λ d. Broken (Elapsed t ∷ acts) id d now) one (subst (λ n. Broken (Elapsed t ∷ acts) id d n) two (this_tick acts id d t m k g))
-  by (Some d) g None k f rest = one_more (Elapsed t) acts id deadline now (rest f)
-  by None g m k f rest = one_more (Elapsed t) acts id deadline now (rest f)
-told_late (Took k ∷ acts) id deadline now says e = by (k == id) e (told_late acts id deadline now says) where
-  by : (b : Bool) → (if b then end.Unknown else told acts id) ≡ end.FailedByTimeout says deadline now → (told acts id ≡ end.FailedByTimeout says deadline now → Broken acts id deadline now) → Broken (Took k ∷ acts) id deadline now
-  by true f rest = cc
-  by false f rest = one_more (Took k) acts id deadline now (rest f)
-told_late (Timed seconds ∷ acts) id deadline now says e = one_more (Timed seconds) acts id deadline now (told_late acts id deadline now says e)
-told_late (Received k ∷ acts) id deadline now says e = one_more (Received k) acts id deadline now (told_late acts id deadline now says e)
-told_late (Lost ∷ acts) id deadline now says e = one_more Lost acts id deadline now (told_late acts id deadline now says e)
+-- one more act behind
+accepted_later : (act : MessageAct) (acts : List MessageAct) (id result : ℕ) → Accepted acts id result → Accepted (act ∷ acts) id result
+accepted_later act acts id result a = record { later = act ∷ a.later; avail = a.avail; earlier = a.earlier; split = ap (λ l. act ∷ l) a.split }
+
+says_later : (act : MessageAct) (acts : List MessageAct) (id : ℕ) (t : TakeAnswer) → Says acts id t → Says (act ∷ acts) id t
+says_later act acts id end.Pending h = tt
+says_later act acts id end.Unknown h = tt
+says_later act acts id (end.Done says avail) h = accepted_later act acts id 0 h
+says_later act acts id (end.FailedByReply says result) h = (h.0, accepted_later act acts id result h.1)
+says_later act acts id (end.FailedByTimeout says deadline now) h = record {
+  which = h.which;
+  same = h.same;
+  later = act ∷ h.later;
+  between = h.between;
+  earlier = h.earlier;
+  split = ap (λ l. act ∷ l) h.split;
+  waits = h.waits;
+  due = h.due;
+  least = h.least;
+}
+
+-- an accepted answer ends its message
+answer_says : (id result avail : ℕ) (acts : List MessageAct) (m : Message) → Says (Answered id result avail ∷ acts) id (replied m result avail)
+answer_says id result avail acts m = by (result == 0) refl where
+  here : Accepted (Answered id result avail ∷ acts) id result
+  here = record { later = []; avail = avail; earlier = acts; split = refl }
+  by : (b : Bool) → (result == 0) ≡ b → Says (Answered id result avail ∷ acts) id (if b then end.Done m.body avail else end.FailedByReply m.body result)
+  by true e = subst (λ r. Accepted (Answered id result avail ∷ acts) id r) (eqb-true result 0 e) here
+  by false e = (eqb-false result 0 e, here)
+
+pub told_says : (acts : List MessageAct) (id : ℕ) → Says acts id (told acts id)
+told_says [] id = tt
+told_says (Sent m ∷ acts) id = by (m.id == id) (says_later (Sent m) acts id (told acts id) (told_says acts id)) where
+  by : (b : Bool) → Says (Sent m ∷ acts) id (told acts id) → Says (Sent m ∷ acts) id (if b then end.Pending else told acts id)
+  by true h = tt
+  by false h = h
+told_says (Answered k result avail ∷ acts) id = by (k == id) refl (outstanding_as acts id) (says_later (Answered k result avail) acts id (told acts id) (told_says acts id)) where
+  by : (b : Bool) → (k == id) ≡ b → (o : Option Message) → Says (Answered k result avail ∷ acts) id (told acts id)
+      → Says (Answered k result avail ∷ acts) id (if b then option_map_or (λ m. replied m result avail) o (told acts id) else told acts id)
+  by true e None h = h
+  by true e (Some m) h = subst (λ i. Says (Answered k result avail ∷ acts) i (replied m result avail)) (eqb-true k id e) (answer_says k result avail acts m)
+  by false e o h = h
+told_says (Elapsed now ∷ acts) id = by (least_due now (outstanding acts)) refl (outstanding_as acts id) refl (says_later (Elapsed now) acts id (told acts id) (told_says acts id)) where
+  by : (o : Option ℕ) → least_due now (outstanding acts) ≡ o → (m : Option Message) → outstanding_as acts id ≡ m → Says (Elapsed now ∷ acts) id (told acts id) → Says (Elapsed now ∷ acts) id (timed_out o m now (told acts id))
+  by (Some deadline) e (Some m) f h = this_tick acts id deadline now m f e
+  by (Some deadline) e None f h = h
+  by None e m f h = h
+told_says (Took k ∷ acts) id = by (k == id) (says_later (Took k) acts id (told acts id) (told_says acts id)) where
+  by : (b : Bool) → Says (Took k ∷ acts) id (told acts id) → Says (Took k ∷ acts) id (if b then end.Unknown else told acts id)
+  by true h = tt
+  by false h = h
+told_says (Timed seconds ∷ acts) id = says_later (Timed seconds) acts id (told acts id) (told_says acts id)
+told_says (Received k ∷ acts) id = says_later (Received k) acts id (told acts id) (told_says acts id)
+told_says (Lost ∷ acts) id = says_later Lost acts id (told acts id) (told_says acts id)

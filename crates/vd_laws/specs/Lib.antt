@@ -1,4 +1,5 @@
 pub mod Among
+pub mod Runs
 pub mod IsolationLaw
 pub mod MessageLaw
 pub mod ImageLaw

@@ -16,13 +16,13 @@ use Rattle.vd_model.specs.Acts.{message_acts}
 use Rattle.vd_model.specs.Messages.{MessageAct, Sent, Received, Answered, Lost, Elapsed, outstanding, is_held, is_received, is_due, deadline_of, answers_to}
 use Rattle.vd_model.specs.NodeTurns.{body_items}
 use Rattle.vd_model.specs.Raw.{request_bytes}
-use Rattle.vd_model.specs.Deeds.{own}
-use Rattle.vd_model.specs.History.{History, deeds_of, reply}
+use Rattle.vd_model.specs.History.{History, reply}
 use Rattle.vd_laws.specs.Among.{Among}
+use Rattle.vd_laws.specs.Runs.{acts_of}
 
 -- the acts on a device's messages, since it was last made
 abbrev pub heard : Setting → History → List ℕ → List MessageAct
-heard x h d = message_acts (own d (deeds_of x h))
+heard x h d = message_acts (acts_of x h d)
 
 -- a history with one more step
 abbrev pub after : History → Step → Bool → History
@@ -87,7 +87,8 @@ pub record DeviceMessages (x : Setting) (h : History) (d : List ℕ) : Type 0 wh
   -- an id that is outstanding and wasn't received since the close comes before any greater one
   pub again : (later since before : List MessageAct) (id : ℕ) → heard x h d ≡ later ++ Received id ∷ (since ++ Lost ∷ before)
       → (k : Message) → Among k (outstanding (since ++ Lost ∷ before)) → is_received since k.id ≡ false → id ≤ k.id
-  -- a take fails by the result of an accepted answer, which isn't 0, or by a tick that broke the device
+  -- a take is done by an accepted answer of result 0, and fails by one of another result, or by a tick that broke the device
+  pub done : (failed : Bool) (id : ℕ) (items : List Item) → reply x h (Device d (Bus (Take id))) failed ≡ Done items → Accepted (heard x h d) id 0
   pub replied : (failed : Bool) (id result : ℕ) → reply x h (Device d (Bus (Take id))) failed ≡ FailedReply result → (result ≢ 0) × Accepted (heard x h d) id result
   pub late : (failed : Bool) (id deadline now : ℕ) → reply x h (Device d (Bus (Take id))) failed ≡ FailedTimeout deadline now → Broken (heard x h d) id deadline now
 
