@@ -2,6 +2,7 @@
 use Rattle.std.proofs.Common.{refl}
 use Rattle.vd_model.specs.Agree.{part}
 use Rattle.vd_model.specs.History.{deeds_of}
+use Rattle.vd_laws.specs.ImageInstances.{ImageInstances}
 use Rattle.vd_laws.specs.IsolationInstances.{IsolationInstances}
 use Rattle.vd_laws.specs.MessageInstances.{MessageInstances}
 
@@ -21,3 +22,7 @@ isolation_met = record {
   image_is_busy = refl;
   image_is_free = refl;
 }
+
+pub image_met : ImageInstances
+unfolding deeds_of
+image_met = record { of_v = refl; of_w = refl; met = refl; image_of_v = refl; image_of_w = refl; window_of_v = refl; window_of_w = refl }

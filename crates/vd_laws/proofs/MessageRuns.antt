@@ -324,6 +324,7 @@ answer_says : (id result avail : ℕ) (acts : List MessageAct) (m : Message) →
 answer_says id result avail acts m = by (result == 0) refl where
   here : Accepted (Answered id result avail ∷ acts) id result
   here = record { later = []; avail = avail; earlier = acts; split = refl }
+
   by : (b : Bool) → (result == 0) ≡ b → Says (Answered id result avail ∷ acts) id (if b then end.Done m.body avail else end.FailedByReply m.body result)
   by true e = subst (λ r. Accepted (Answered id result avail ∷ acts) id r) (eqb-true result 0 e) here
   by false e = (eqb-false result 0 e, here)

@@ -6,3 +6,4 @@ pub mod ImageLaw
 pub mod Small
 pub mod MessageInstances
 pub mod IsolationInstances
+pub mod ImageInstances

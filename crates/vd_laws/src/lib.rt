@@ -8,4 +8,4 @@ mod windows;
 
 pub use alone::{isolation, isolation_instances};
 pub use told::{message_instances, messages};
-pub use windows::image_content;
+pub use windows::{image_content, image_instances};
