@@ -1,5 +1,5 @@
 -- Windows of two names don't meet, and what is stored lies in the window, so each window holds what its own name stored.
-use Rattle.std.proofs.Common.{◌≡◌, ℕ, ◌+◌, ◌-◌, ◌*◌, ◌<◌, ◌≤◌, Bool, true, false, refl, ap, subst, ◌∙◌, sym, arith, Option, None, Some, cond, nat_lt, nat_le, List, [], ◌∷◌, ◌++◌, length, ◌||◌, ◌&&◌, ◌==◌, not, map, is_some, ◌⊎◌, inl, inr, true≢false}
+use Rattle.std.proofs.Common.{◌≡◌, ℕ, ◌+◌, ◌-◌, ◌*◌, ◌<◌, ◌≤◌, Bool, true, false, refl, ap, subst, ◌∙◌, sym, arith, Option, None, Some, cond, nat_lt, nat_le, List, [], ◌∷◌, ◌++◌, length, ◌||◌, ◌&&◌, ◌==◌, not, map, is_some, inl, inr, true≢false}
 use Rattle.std.specs.Prelude.{unwrap_or, slice_get}
 use Rattle.std.specs.Option.{option_map_or}
 use Rattle.std.specs.Str.{bytes_eq}
@@ -16,11 +16,11 @@ use Rattle.vd_model.specs.Acts.{Act, Node, Driver, Bus, Message_act, State, Disk
 use Rattle.vd_model.specs.Acts as acted
 use Rattle.vd_model.specs.Puts.{byte_in}
 use Rattle.vd_model.specs.Raw.{control_step}
-use Rattle.vd_model.specs.Turn.{Turn, given}
-use Rattle.vd_model.specs.Deeds.{Deed, Made, Destroyed, On, Given, Passed, seen, clock, window_of, is_given, is_there, window_start, image_byte, ever, window_byte}
-use Rattle.vd_model.specs.ControlTurns.{Outcome, done_with, refuse_all, control_outcome, plain_outcome, raw_outcome}
+use Rattle.vd_model.specs.Turn.{given}
+use Rattle.vd_model.specs.Deeds.{Deed, Made, Destroyed, On, Given, Passed, seen, clock, window_of, is_given, is_there, image_byte, ever, window_byte}
+use Rattle.vd_model.specs.ControlTurns.{done_with, refuse_all, control_outcome, plain_outcome, raw_outcome}
 use Rattle.vd_model.specs.History.{History, deeds_of, outcome, device_turn, device_queue_turn}
-use Rattle.vd_laws.proofs.Kept.{name_is, granted, raw_granted, control_granted, if_done_either, plain_does, control_does}
+use Rattle.vd_laws.proofs.Kept.{name_is, granted, if_done_either, plain_does}
 use Rattle.vd_laws.proofs.Heard.{Fits, device_fair, device_queue_fair}
 
 -- ---- bytes in a list

@@ -3,7 +3,6 @@ use Rattle.std.proofs.Common.{◌≡◌, ◌≢◌, ℕ, ◌+◌, ◌<◌, ◌�
 use Rattle.std.specs.Option.{option_map_or}
 use Rattle.std.proofs.lemmas.Bool.{eqb-false, not-true}
 use Rattle.std.proofs.lemmas.Bool.Decides.{nat_tests}
-use Rattle.vd_model.specs.declared.message.Body.{Body}
 use Rattle.vd_model.specs.declared.message.Message.{Message}
 use Rattle.vd_model.specs.declared.message.TakeAnswer.{TakeAnswer}
 use Rattle.vd_model.specs.declared.message.TakeAnswer.TheVariants as end

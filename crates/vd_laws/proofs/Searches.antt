@@ -1,6 +1,5 @@
 -- What a search finds among a list.
-use Rattle.std.proofs.Common.{◌≡◌, Bool, true, false, refl, ap, ◌∙◌, sym, Option, Some, None, cond, List, [], ◌∷◌, ◌++◌, ◌||◌, find, filter, is_some, ◌⊎◌, inl, inr, true≢false}
-use Rattle.std.specs.List.{list_any}
+use Rattle.std.proofs.Common.{◌≡◌, Bool, true, false, refl, ap, ◌∙◌, sym, Option, Some, None, cond, List, [], ◌∷◌, find, is_some, ◌⊎◌, inl, inr, true≢false}
 use Rattle.vd_laws.specs.Among.{Among}
 use Rattle.vd_laws.proofs.Lists.{found, found_passes}
 

@@ -1,5 +1,5 @@
 -- The law of the image is met: two names store at the same place of their windows.
-use Rattle.std.specs.Prelude.{ℕ, List, [], ◌∷◌, ◌++◌, false, Some, ◌≡◌}
+use Rattle.std.specs.Prelude.{List, [], ◌∷◌, false, Some, ◌≡◌}
 use Rattle.vd_num.specs.declared.errno.Errno.TheVariants.{Busy}
 use Rattle.vd_model.specs.declared.answer.Answer.TheVariants.{Err}
 use Rattle.vd_model.specs.Acts.{Disk, Stored}

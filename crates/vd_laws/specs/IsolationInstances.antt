@@ -1,5 +1,5 @@
 -- The law of isolation is met: another device acts between, and nothing of it shows; and only a line that shares a limit shows it.
-use Rattle.std.specs.Prelude.{ℕ, List, [], ◌∷◌, ◌++◌, true, false, ◌≡◌, ◌≢◌, length}
+use Rattle.std.specs.Prelude.{[], ◌∷◌, true, false, ◌≡◌, ◌≢◌, length}
 use Rattle.vd_num.specs.declared.errno.Errno.TheVariants.{Busy}
 use Rattle.vd_model.specs.declared.answer.Item.TheVariants.{Text}
 use Rattle.vd_model.specs.declared.answer.Answer.TheVariants.{Done, Err}

@@ -7,3 +7,5 @@ pub mod Small
 pub mod MessageInstances
 pub mod IsolationInstances
 pub mod ImageInstances
+pub mod Calm
+pub mod BlockLaw

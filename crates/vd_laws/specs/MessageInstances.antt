@@ -1,5 +1,5 @@
 -- The law of messages is met: small histories in which each part of it says something.
-use Rattle.std.specs.Prelude.{ℕ, List, [], ◌∷◌, true, false, ◌≡◌}
+use Rattle.std.specs.Prelude.{[], ◌∷◌, true, false, ◌≡◌}
 use Rattle.vd_num.specs.declared.errno.Errno.TheVariants.{Noent}
 use Rattle.vd_model.specs.declared.answer.Tag.TheVariants.{Id, Status}
 use Rattle.vd_model.specs.declared.answer.Item.TheVariants.{Word, Number}
