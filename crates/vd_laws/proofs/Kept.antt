@@ -21,7 +21,8 @@ use Rattle.vd_model.specs.Raw.{control_step}
 use Rattle.vd_model.specs.Creation.{Creation}
 use Rattle.vd_model.specs.Deeds.{Deed, Made, Destroyed, On, Given, Passed, Seen, seen, own, made_with, clock, window_of, ever, window_byte, is_there, devices, is_given}
 use Rattle.vd_model.specs.ControlTurns.{Outcome, done_with, refuse_all, dev_made, is_bad_name, is_bad_config, plain_outcome, raw_outcome, control_outcome}
-use Rattle.vd_model.specs.History.{History, deeds_of, reply, outcome, on, device_turn, device_queue_turn}
+use Rattle.vd_model.specs.History.{Entry, History, deeds_of, reply, outcome, on, device_turn, device_queue_turn}
+use Rattle.vd_laws.specs.IsolationLaw.{IsolationLaw, ArePrivate}
 use Rattle.vd_model.specs.Agree.{Said, plain_concerns, raw_concerns, control_concerns, concerns, part, Agree, plain_shares, raw_shares, control_shares, is_private}
 
 -- a name that is tested is that name
@@ -314,3 +315,26 @@ isolated x h d g agree (Device name step) failed private =
 isolated x h d g agree (Queue name step) failed private =
     subst (λ n. reply x h (Queue n step) failed ≡ reply x g (Queue n step) failed) (name_is d name private)
     (ap (λ k. (device_queue_turn x d (seen_of x k) failed step).answer) (same_kept x d h g agree))
+
+-- ---- a step that is left out
+
+-- after private lines the two histories agree, with and without a step of another device
+left_out : (x : Setting) (d : List ℕ) (h : History) (other : Entry) → concerns d other.step ≡ false → (later : History) → ArePrivate d later → Agree x d (later ++ other ∷ h) (later ++ h)
+unfolding part
+left_out x d h other unnamed [] private = ap (λ b. cond b (record { step = other.step; failed = other.failed; answer = reply x h other.step other.failed } ∷ part x d h) (part x d h)) unnamed
+left_out x d h other unnamed (entry ∷ later) private = by (left_out x d h other unnamed later (λ e k. private e (inr k))) (concerns d entry.step) refl where
+  by : Agree x d (later ++ other ∷ h) (later ++ h) → (b : Bool) → concerns d entry.step ≡ b
+      → cond b (record { step = entry.step; failed = entry.failed; answer = reply x (later ++ other ∷ h) entry.step entry.failed } ∷ part x d (later ++ other ∷ h)) (part x d (later ++ other ∷ h))
+      ≡ cond b (record { step = entry.step; failed = entry.failed; answer = reply x (later ++ h) entry.step entry.failed } ∷ part x d (later ++ h)) (part x d (later ++ h))
+  by agree false e = agree
+  by agree true e =
+      let same : reply x (later ++ other ∷ h) entry.step entry.failed ≡ reply x (later ++ h) entry.step entry.failed
+      = isolated x (later ++ other ∷ h) d (later ++ h) agree entry.step entry.failed (private entry (inl refl) e) in
+      ap (λ a. record { step = entry.step; failed = entry.failed; answer = a } ∷ part x d (later ++ other ∷ h)) same
+      ∙ ap (λ before. record { step = entry.step; failed = entry.failed; answer = reply x (later ++ h) entry.step entry.failed } ∷ before) agree
+
+pub isolation_law : (x : Setting) (h : History) → IsolationLaw x h
+isolation_law x h = record {
+  alike = isolated x h;
+  unshown = λ d other unnamed later private step failed is_private. isolated x (later ++ other ∷ h) d (later ++ h) (left_out x d h other unnamed later private) step failed is_private;
+}
