@@ -6,13 +6,14 @@ use Rattle.vd_model.specs.declared.step.Step.TheVariants.{Control, Device, Queue
 use Rattle.vd_model.specs.declared.step.DevStep.{DevStep}
 use Rattle.vd_model.specs.declared.step.ControlStep.{ControlStep}
 use Rattle.vd_model.specs.declared.step.ControlStep.TheVariants as control
+use Rattle.vd_model.specs.declared.answer.Answer.TheVariants.{Done}
 use Rattle.vd_model.specs.Setting.{Setting}
 use Rattle.vd_model.specs.Acts.{Act, Bus, State, Node, Attached, Opened, message_acts}
 use Rattle.vd_model.specs.State.{Max_set}
 use Rattle.vd_model.specs.Raw.{control_step}
 use Rattle.vd_model.specs.Turn.{Turn}
-use Rattle.vd_model.specs.Deeds.{Deed, On, own, clock, seen}
-use Rattle.vd_model.specs.ControlTurns.{control_outcome}
+use Rattle.vd_model.specs.Deeds.{Deed, Made, On, own, clock, seen}
+use Rattle.vd_model.specs.ControlTurns.{plain_creation, control_outcome}
 use Rattle.vd_model.specs.History.{History, deeds_of, outcome, device_turn, device_queue_turn}
 use Rattle.vd_laws.specs.MessageLaw.{heard, after}
 use Rattle.vd_laws.proofs.Kept.{name_is, is_itself, granted, raw_granted, control_granted, if_done_either, control_does}
@@ -50,10 +51,9 @@ granted_legal t control.Version done l = l
 granted_legal t (control.SetVersion version) done l = l
 granted_legal t (control.Create name vendor device features queues align config) done l = λ d. made_legal d done (bytes_eq d name) (l d)
 granted_legal t (control.Destroy name) done l = l
-granted_legal t (control.Dev name) done l = λ d. by d (bytes_eq d name) where
-  by : (d : List ℕ) (b : Bool) → Legal (message_acts (cond b (Bus Attached ∷ cond b (State (Max_set 0 256) ∷ cond b (Node Opened ∷ cond b [] (own d done)) (cond b [] (own d done))) (cond b (Node Opened ∷ cond b [] (own d done)) (cond b [] (own d done)))) (cond b (State (Max_set 0 256) ∷ cond b (Node Opened ∷ cond b [] (own d done)) (cond b [] (own d done))) (cond b (Node Opened ∷ cond b [] (own d done)) (cond b [] (own d done))))))
-  by d true = tt
-  by d false = l d
+granted_legal t (control.Dev name) done l =
+    turn_legal name (record { answer = Done []; acts = Bus Attached ∷ State (Max_set 0 256) ∷ Node Opened ∷ [] }) (Made name plain_creation ∷ done) (λ l. l)
+    (λ d. made_legal d done (bytes_eq d name) (l d))
 granted_legal t (control.Tick seconds) done l = λ d. (tt, l d)
 granted_legal t (control.Image name first count) done l = l
 granted_legal t (control.Control number bytes) done l = l

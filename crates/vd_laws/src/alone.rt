@@ -12,6 +12,6 @@ pub fn isolation()
 {}
 
 /// The law says something of small histories, and its condition on the line is needed.
-pub fn isolation_instances()
+pub fn instances_of_isolation()
     ensures { IsolationInstances }
 {}

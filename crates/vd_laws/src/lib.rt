@@ -1,11 +1,14 @@
-//! The laws of the history machine, for every history and every device. Each is the contract of a
+//! The laws of the history machine: what holds after every list of steps. Each is the contract of a
 //! function that does nothing.
+//!
+//! It stands on the numbers and the model alone, and no code stands under it: the laws are about the
+//! model's definitions, and the engine hands them on for the run of a script.
 #![tactic(auto)]
 
 mod alone;
 mod told;
 mod windows;
 
-pub use alone::{isolation, isolation_instances};
-pub use told::{message_instances, messages};
-pub use windows::{image_content, image_instances};
+pub use alone::{instances_of_isolation, isolation};
+pub use told::{instances_of_messages, messages};
+pub use windows::{image_content, instances_of_image};

@@ -12,6 +12,6 @@ pub fn messages()
 {}
 
 /// Each part of the law says something of small histories.
-pub fn message_instances()
+pub fn instances_of_messages()
     ensures { MessageInstances }
 {}

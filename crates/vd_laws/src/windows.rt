@@ -11,6 +11,6 @@ pub fn image_content()
 {}
 
 /// The law says something of a small history.
-pub fn image_instances()
+pub fn instances_of_image()
     ensures { ImageInstances }
 {}
