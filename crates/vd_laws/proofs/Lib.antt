@@ -29,3 +29,12 @@ pub mod Origins_of
 pub mod Alike_of
 pub mod Reads_of
 pub mod Samples_of
+pub mod Kept
+pub mod Quiet
+pub mod Heard
+pub mod Searches
+pub mod MessageRuns
+pub mod Histories
+pub mod MessageAnswers
+pub mod Content
+pub mod Instances

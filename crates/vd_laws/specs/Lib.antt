@@ -9,3 +9,12 @@ pub mod Origins
 pub mod Alike
 pub mod Reads
 pub mod ReadSamples
+pub mod IsolationLaw
+pub mod MessageLaw
+pub mod ImageLaw
+pub mod Small
+pub mod MessageInstances
+pub mod IsolationInstances
+pub mod ImageInstances
+pub mod Calm
+pub mod BlockLaw
