@@ -5,6 +5,7 @@ use Rattle.vd_model.specs.declared.memory.Dir.TheVariants.{Both}
 use Rattle.vd_model.specs.declared.step.Step.{Step}
 use Rattle.vd_model.specs.declared.step.Step.TheVariants.{Control, Device}
 use Rattle.vd_model.specs.declared.step.DevStep.TheVariants as line
+use Rattle.vd_model.specs.declared.step.AreaStep.TheVariants as area
 use Rattle.vd_model.specs.declared.step.ControlStep.TheVariants as control
 use Rattle.vd_model.specs.declared.step.DriverStep.TheVariants as driver
 use Rattle.vd_model.specs.Setting.{Setting}
@@ -58,3 +59,10 @@ run dir =
     asked (Device v (line.Driver (driver.Map 0 0 2 dir)))
     ∷ asked (Device v (line.Driver (driver.Buf (7 ∷ 8 ∷ []))))
     ∷ asked (Control (control.Dev v)) ∷ []
+
+-- then a daemon stores a byte over the second of them, and the driver unmaps them
+abbrev pub returned : Dir → History
+returned dir =
+    asked (Device v (line.Driver (driver.Unmap 0)))
+    ∷ asked (Device v (line.Area (area.Store 0xf001 (9 ∷ []))))
+    ∷ run dir

@@ -1,13 +1,18 @@
 //! What comes back from a daemon.
 
-ghost use Rattle.std.specs.Prelude.{◌≡◌, ℕ, [], ◌∷◌, Some, None};
-ghost use Rattle.vd_model.specs.declared.memory.Dir.TheVariants.{From, Both};
+ghost use Rattle.std.specs.Prelude.{◌≡◌, ℕ, [], ◌∷◌, false, Some, None};
+ghost use Rattle.vd_model.specs.declared.memory.Dir.TheVariants.{To, From, Both};
+ghost use Rattle.vd_model.specs.declared.step.Step.TheVariants.{Device};
+ghost use Rattle.vd_model.specs.declared.step.DevStep.TheVariants as line;
+ghost use Rattle.vd_model.specs.declared.step.DriverStep.TheVariants as driver;
+ghost use Rattle.vd_model.specs.declared.answer.Item.TheVariants.{Text};
+ghost use Rattle.vd_model.specs.declared.answer.Answer.TheVariants.{Done};
 ghost use Rattle.vd_model.specs.Acts.{Node, Driver, Area_put, Unmapped, Synced_device};
 ghost use Rattle.vd_model.specs.Puts.{ram};
 ghost use Rattle.vd_laws.specs.UsedBytesLaw.{last_write};
-ghost use Rattle.vd_laws.specs.MemorySamples.{two, stored, kept};
+ghost use Rattle.vd_laws.specs.MemorySamples.{two, stored, kept, small, v, returned};
 ghost use Rattle.vd_model.specs.Setting.{Setting};
-ghost use Rattle.vd_model.specs.History.{History};
+ghost use Rattle.vd_model.specs.History.{History, reply};
 ghost use Rattle.vd_laws.specs.UsedBytesLaw.{UsedBytesLaw};
 
 /// The bytes that a daemon wrote last are the buffer's after an unmap, and a poll tells the length
@@ -25,4 +30,6 @@ pub fn instances_of_used_bytes()
     ensures in_the_area { last_write (Node (Area_put 0x1f001 (6 ∷ [])) ∷ kept Both) (two Both) 1 ≡ Some 6 }
     ensures area_back { ram 1 (Driver (Unmapped (two Both)) ∷ Node (Area_put 0x1f001 (6 ∷ [])) ∷ kept Both) 0 1 ≡ 6 }
     ensures large_page { ram 16 (Driver (Unmapped (two Both)) ∷ Node (Area_put 0x1f001 (6 ∷ [])) ∷ kept Both) 0 1 ≡ 6 }
+    ensures peeked { reply small (returned From) (Device v (line.Driver (driver.Peek 0 0 2))) false ≡ Done (Text (0 ∷ 9 ∷ []) ∷ []) }
+    ensures peeked_of_a_to { reply small (returned To) (Device v (line.Driver (driver.Peek 0 0 2))) false ≡ Done (Text (7 ∷ 8 ∷ []) ∷ []) }
 {}
