@@ -18,9 +18,9 @@ use Rattle.vd_model.specs.Turn.{refuse, given, lift, told}
 use Rattle.vd_model.specs.AreaTurns.{is_accessible, first_failing, first_bus, part_refusal}
 use Rattle.vd_model.specs.DaemonTurns.{daemon_memory}
 use Rattle.vd_model.specs.History.{History, device_turn, on}
-use Rattle.vd_laws.specs.Runs.{acts_of}
+use Rattle.vd_laws.specs.Runs.{acts_of, IsMoment}
 use Rattle.vd_laws.specs.Origins.{IsReadable, IsAddressOf}
-use Rattle.vd_laws.specs.Reads.{IsShown, IsInArea, IsMoment, ReadLaw, seen_after}
+use Rattle.vd_laws.specs.Reads.{IsShown, IsInArea, ReadLaw, seen_after}
 use Rattle.vd_laws.proofs.Origins_of.{AllFit, comes, comes_in_area, readable, fitting, earlier_fit}
 use Rattle.vd_laws.proofs.Turns.{own_legal}
 use Rattle.vd_laws.proofs.Alike_of.{walks, fetches_alike, finishes_alike, executes_alike}

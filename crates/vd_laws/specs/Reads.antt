@@ -1,5 +1,5 @@
 -- The law on what a daemon reads.
-use Rattle.std.specs.Prelude.{ℕ, ◌+◌, ◌<◌, List, [], ◌∷◌, ◌++◌, Bool, IsTrue, ◌≡◌, Some, Ok, slice_index}
+use Rattle.std.specs.Prelude.{ℕ, ◌+◌, ◌<◌, List, [], ◌∷◌, Bool, IsTrue, ◌≡◌, Some, Ok, slice_index}
 use Rattle.vd_model.specs.declared.step.Step.TheVariants.{Device, Queue}
 use Rattle.vd_model.specs.declared.step.DevStep.TheVariants as line
 use Rattle.vd_model.specs.declared.step.AreaStep.TheVariants as area
@@ -14,13 +14,9 @@ use Rattle.vd_model.specs.Deeds.{Seen, seen}
 use Rattle.vd_model.specs.AreaTurns.{is_accessible}
 use Rattle.vd_model.specs.DaemonTurns.{daemon_memory}
 use Rattle.vd_model.specs.History.{History, outcome, reply, deeds_of}
-use Rattle.vd_laws.specs.Runs.{acts_of}
+use Rattle.vd_laws.specs.Runs.{acts_of, IsMoment}
 use Rattle.vd_laws.specs.Alike.{LooksAlike, HasSameDisk, KeepsAlike}
 use Rattle.vd_laws.specs.Origins.{Comes, IsReadable, IsAddressOf}
-
--- the device's acts up to some moment of a history
-abbrev pub IsMoment : Setting → History → List ℕ → List Act → Type 0
-IsMoment x h d acts = (later : List Act) × (acts_of x h d ≡ later ++ acts)
 
 -- the address can be accessed, and this is its byte
 pub record IsShown (x : Setting) (acts : List Act) (a byte : ℕ) : Type 0 where
