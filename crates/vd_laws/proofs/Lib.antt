@@ -38,3 +38,4 @@ pub mod Histories
 pub mod MessageAnswers
 pub mod Content
 pub mod Instances
+pub mod All_of

@@ -18,3 +18,4 @@ pub mod IsolationInstances
 pub mod ImageInstances
 pub mod Calm
 pub mod BlockLaw
+pub mod Laws

@@ -12,6 +12,7 @@ mod presence;
 mod reading;
 mod told;
 mod used;
+mod whole;
 mod windows;
 
 pub use alone::{instances_of_isolation, isolation};
@@ -21,4 +22,5 @@ pub use presence::present_pages;
 pub use reading::{instances_of_reading, reads};
 pub use told::{instances_of_messages, messages};
 pub use used::{instances_of_used_bytes, used_bytes};
+pub use whole::laws;
 pub use windows::{image_content, instances_of_image};
