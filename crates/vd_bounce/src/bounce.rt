@@ -309,28 +309,3 @@ fn read_at(memory: &[u8], at: usize, out: &mut [u8])
     let n = out.len();
     out.copy_from_slice(&memory[at..at + n]);
 }
-
-#[cfg(test)]
-mod tests {
-    use super::*;
-    use std::test::Fail;
-
-    #[test]
-    fn area(rt: HostRuntime) -> Result<(), Fail> {
-        let mut pool = Pool::new(rt.alloc(), 16);
-        pool.reserve(1)?;
-        let mut map = BounceMap::new(rt.alloc(), 2, 16)?;
-        let made = map.new_area(16384);
-        let len = map.area_len();
-        let before = map.present(1);
-        map.ensure(&mut pool, 1);
-        let present = (map.present(0), map.present(1), map.present(2));
-        map.discard(&mut pool);
-        assert_eq!(rt; made, Ok(()));
-        assert_eq!(rt; len, Some(16384));
-        assert_eq!(rt; before, false);
-        assert_eq!(rt; present, (false, true, false));
-        assert_eq!(rt; pool.spare(), 1);
-        Ok(())
-    }
-}

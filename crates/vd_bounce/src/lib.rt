@@ -8,5 +8,7 @@
 
 mod bounce;
 mod rows;
+#[cfg(test)]
+mod tests;
 
 pub use bounce::{AreaError, BounceMap};

@@ -49,6 +49,17 @@ pub record IsOutside (words : List ℕ) (first end : ℕ) : Type 0 where
   pub below : (p : ℕ) → p < first → p < 64 * length words → bit words p ≡ 1
   pub above : (p : ℕ) → end ≤ p → p < 64 * length words → bit words p ≡ 1
 
+-- a run of n bits is asked for at multiples of step, from first to end - 1: step is not below n and below twice n, n bits
+-- have room there, the row has up to 1,024 words, and its other bits are set
+pub record IsSearch (words : List ℕ) (step n first end : ℕ) : Type 0 where
+  pub some : 0 < n
+  pub fits : n ≤ step
+  pub least : step < 2 * n
+  pub room : first + n ≤ end
+  pub inside : end ≤ 64 * length words
+  pub small : length words ≤ 1024
+  pub outside : IsOutside words first end
+
 -- one summary word says which of the words from `from` to `to` - 1 are full
 pub record SumsUp (words : List ℕ) (sum from to : ℕ) : Type 0 where
   pub is_full : (w : ℕ) → from ≤ w → w < to → bit_at sum (w % 64) ≡ 1 → IsFullWord words w

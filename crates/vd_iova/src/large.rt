@@ -2,7 +2,7 @@
 
 ghost use Rattle.std.specs.Prelude.{◌≡◌, ◌+◌, ◌-◌, ◌*◌, ◌/◌, ◌%◌, ◌<◌, ◌≤◌, ◌^◌, ℕ, MatchOption, length, if◌then◌else◌};
 ghost use Rattle.vd_num.specs.Number.{is_within};
-ghost use Rattle.vd_iova.specs.Bits.{bit, IsClear, IsFullWord, IsSummary, IsOutside, NoRun, IsTopRun, Takes};
+ghost use Rattle.vd_iova.specs.Bits.{bit, IsClear, IsFullWord, IsSearch, IsSummary, NoRun, IsTopRun, Takes};
 
 use crate::row::{fill, mark, run_clear};
 use crate::word::with_bits;
@@ -18,14 +18,8 @@ fn find<L: Ledger>(
     step: usize,
     steps: &mut Steps<L>,
 ) -> Option<usize>
-    requires some { 0 < n }
-    requires fits { n ≤ step }
-    requires most { step ≤ 2 * n }
+    requires search { IsSearch words.now step n first end }
     requires whole { (q : ℕ) × (step ≡ q * 64) }
-    requires room { first + n ≤ end }
-    requires inside { end ≤ 64 * length words.now }
-    requires small { length words.now ≤ 1024 }
-    requires outside { IsOutside words.now first end }
     ensures run { MatchOption result
         (NoRun words.now step n 0 (end + 1 - n))
         (λ s. IsTopRun words.now step n (end + 1 - n) s × (s + n ≤ end)) }
@@ -96,15 +90,9 @@ pub fn take<L: Ledger>(
     step: usize,
     steps: &mut Steps<L>,
 ) -> Option<usize>
-    requires some { 0 < n }
-    requires fits { n ≤ step }
-    requires most { step ≤ 2 * n }
+    requires search { IsSearch words.old step n first end }
     requires whole { (q : ℕ) × (step ≡ q * 64) }
-    requires room { first + n ≤ end }
-    requires inside { end ≤ 64 * length words.old }
-    requires small { length words.old ≤ 1024 }
     requires summary { IsSummary words.old full.old }
-    requires outside { IsOutside words.old first end }
     ensures run { MatchOption result
         (NoRun words.old step n 0 (end + 1 - n) × (words.new ≡ words.old) × (full.new ≡ full.old))
         (λ s. IsTopRun words.old step n (end + 1 - n) s × Takes s n words.old full.old words.new full.new) }

@@ -3,7 +3,7 @@
 ghost use Rattle.std.specs.Prelude.{◌≡◌, ◌+◌, ◌-◌, ◌*◌, ◌/◌, ◌%◌, ◌<◌, ◌≤◌, ◌^◌, ℕ, MatchOption, length, is_some, slice_index, if◌then◌else◌};
 ghost use Rattle.std.specs.Int.{bit_at};
 ghost use Rattle.vd_num.specs.Number.{is_within};
-ghost use Rattle.vd_iova.specs.Bits.{bit, IsSummary, IsOutside, SumsUp, NoRun, IsFound, IsFoundIn, IsTopRun, Takes};
+ghost use Rattle.vd_iova.specs.Bits.{bit, IsSearch, IsSummary, SumsUp, NoRun, IsFound, IsFoundIn, IsTopRun, Takes};
 
 use crate::word::{is_clear, top_run, with_bits, words_for};
 use std::sync::ledger::Ledger;
@@ -62,15 +62,9 @@ fn find<L: Ledger>(
     step: u32,
     steps: &mut Steps<L>,
 ) -> Option<Found>
-    requires some { 0 < n }
-    requires fits { n ≤ step }
-    requires least { step < 2 * n }
+    requires search { IsSearch words.now step n first end }
     requires whole { (q : ℕ) × (64 ≡ q * step) }
-    requires order { first < end }
-    requires inside { end ≤ 64 * length words.now }
-    requires small { length words.now ≤ 1024 }
     requires summary { IsSummary words.now full.now }
-    requires outside { IsOutside words.now first end }
     ensures run { MatchOption result
         (NoRun words.now step n 0 (64 * length words.now))
         (λ f. IsFound words.now full.now step n f.at f.word f.sum f.lo) }
@@ -121,15 +115,9 @@ pub fn take<L: Ledger>(
     step: u32,
     steps: &mut Steps<L>,
 ) -> Option<usize>
-    requires some { 0 < n }
-    requires fits { n ≤ step }
-    requires least { step < 2 * n }
+    requires search { IsSearch words.old step n first end }
     requires whole { (q : ℕ) × (64 ≡ q * step) }
-    requires order { first < end }
-    requires inside { end ≤ 64 * length words.old }
-    requires small { length words.old ≤ 1024 }
     requires summary { IsSummary words.old full.old }
-    requires outside { IsOutside words.old first end }
     ensures run { MatchOption result
         (NoRun words.old step n 0 (64 * length words.old) × (words.new ≡ words.old) × (full.new ≡ full.old))
         (λ s. IsTopRun words.old step n (64 * length words.old) s × Takes s n words.old full.old words.new full.new) }

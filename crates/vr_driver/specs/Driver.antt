@@ -14,7 +14,7 @@ use Rattle.vr_driver.specs.declared.completion.Completion.{Completion}
 use Rattle.vr_driver.specs.declared.completion.UsedError.{UsedError}
 use Rattle.vr_driver.specs.declared.completion.UsedError.TheVariants.{BadId, TooFarAhead}
 
--- the ring lies whole in the map that is told, or each of its three parts in the span
+-- each of the ring's three parts lies in the map that is told, or in the span
 pub record RingInReach (told : Option Memory) (span : Option Range) (place : RingPlace) : Type 0 where
   pub desc : Reaches told span place.desc (16 * place.size)
   pub driver : Reaches told span place.driver (6 + 2 * place.size)

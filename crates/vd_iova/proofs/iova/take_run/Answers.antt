@@ -4,10 +4,32 @@ use Rattle.vd_iova.proofs.Powers.{small_step, large_step}
 use Rattle.vd_iova.proofs.Searches.{small_run}
 use Rattle.vd_iova.proofs.iova.take_run.Goals as goal
 
+pub take-requires-clause-search : goal.take-requires-clause-search
+take-requires-clause-search g c = record {
+  some = c.requires.some;
+  fits = c.align_of-step.ensures.enough;
+  least = c.align_of-step.ensures.least;
+  room = c.requires.room;
+  inside = c.requires.inside;
+  small = c.requires.small;
+  outside = c.requires.outside;
+}
+
 pub take-requires-clause-whole : goal.take-requires-clause-whole
 take-requires-clause-whole g c =
     let least = c.align_of-step.ensures.least in
     small_step c.args.n c.align_of-step.result c.align_of-step.ensures.value (omega arith)
+
+pub take-requires-else-n-le64-clause-search : goal.take-requires-else-n-le64-clause-search
+take-requires-else-n-le64-clause-search g c = record {
+  some = c.requires.some;
+  fits = c.align_of-step.ensures.enough;
+  least = c.align_of-step.ensures.least;
+  room = c.requires.room;
+  inside = c.requires.inside;
+  small = c.requires.small;
+  outside = c.requires.outside;
+}
 
 pub take-requires-else-n-le64-clause-whole : goal.take-requires-else-n-le64-clause-whole
 take-requires-else-n-le64-clause-whole g c =

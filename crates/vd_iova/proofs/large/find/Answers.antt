@@ -8,10 +8,10 @@ use Rattle.vd_iova.proofs.large.find.Goals as goal
 pub loop-next-init : goal.loop-next-init
 loop-next-init g c =
     let step = c.args.step in
-    let some = c.requires.some in
-    let wide = c.requires.fits in
+    let some = c.requires.search.some in
+    let wide = c.requires.search.fits in
     let pos : 0 < c.args.step = omega arith in
-    let room = c.requires.room in
+    let room = c.requires.search.room in
     let past = beyond step (c.args.«end» - c.args.n) pos in
     let below = under step (c.args.«end» - c.args.n) pos in
     record {
@@ -26,13 +26,13 @@ pub returns-then-run_clear-clause-run : goal.returns-then-run_clear-clause-run
 returns-then-run_clear-clause-run g c =
     let step = c.args.step in
     let inv = c.loop-next.invariant in
-    let some = c.requires.some in
-    let wide = c.requires.fits in
+    let some = c.requires.search.some in
+    let wide = c.requires.search.fits in
     let pos : 0 < c.args.step = omega arith in
     let test = c.loop-next-test.true in
     let ends = inv.ends in
-    let room = c.requires.room in
-    let inside = c.requires.inside in
+    let room = c.requires.search.room in
+    let inside = c.requires.search.inside in
     let fits : c.args.step ≤ c.loop-next.next = omega arith in
     let at = prev step inv.multiple.0 c.loop-next.next pos fits inv.multiple.1 in
     let start = word_start step c.requires.whole.0 at.0 (c.loop-next.next - c.args.step) c.requires.whole.1 at.1 in (
@@ -50,8 +50,8 @@ pub loop-next-preserved : goal.loop-next-preserved
 loop-next-preserved g c =
     let step = c.args.step in
     let inv = c.loop-next.invariant in
-    let some = c.requires.some in
-    let wide = c.requires.fits in
+    let some = c.requires.search.some in
+    let wide = c.requires.search.fits in
     let whole = c.requires.whole.1 in
     let pos : 0 < c.args.step = omega arith in
     let test = c.loop-next-test.true in
@@ -72,7 +72,7 @@ loop-next-preserved g c =
 
 pub returns-clause-run : goal.returns-clause-run
 returns-clause-run g c =
-    let room = c.requires.room in
-    let inside = c.requires.inside in
+    let room = c.requires.search.room in
+    let inside = c.requires.search.inside in
     candidates_end c.args.words.now c.args.step c.args.n c.loop-next.invariant.multiple.0 c.loop-next.next (c.args.«end» + 1 - c.args.n) c.loop-next.invariant.multiple.1
-    c.args.first c.args.«end» c.requires.some c.requires.outside (omega arith) (let test = c.loop-next-test.false in omega arith) c.loop-next.invariant.above
+    c.args.first c.args.«end» c.requires.search.some c.requires.search.outside (omega arith) (let test = c.loop-next-test.false in omega arith) c.loop-next.invariant.above

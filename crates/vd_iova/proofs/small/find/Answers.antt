@@ -12,7 +12,7 @@ find_in_group-requires-clause-sums g c =
     let to = c.min-to.ensures in
     let high = c.words_for-high.ensures in
     group_sums c.args.words.now c.args.full.now c.look-sum.result (c.loop-group.group - 1) c.max-from.result c.min-to.result c.requires.summary c.look-sum.ensures.word
-    (λ w low below. omega arith) (let room = c.requires.inside in omega arith)
+    (λ w low below. omega arith) (let room = c.requires.search.inside in omega arith)
 
 pub returns-in-Some-clause-run : goal.returns-in-Some-clause-run
 returns-in-Some-clause-run g c =
@@ -23,7 +23,7 @@ returns-in-Some-clause-run g c =
     let from = c.max-from.ensures in
     let to = c.min-to.ensures in
     let high = c.words_for-high.ensures in
-    let room = c.requires.inside in
+    let room = c.requires.search.inside in
     let group : c.in-Some.found.at / 64 ≡ c.loop-group.group - 1 = omega arith in
     record {
       inside = omega arith;
@@ -32,7 +32,7 @@ returns-in-Some-clause-run g c =
       clear = found.clear;
       run = found.run;
       top = no_run_join c.args.words.now c.args.step c.args.n (64 * (c.in-Some.found.at + 1)) (64 * c.min-to.result) (64 * length c.args.words.now) found.top
-          (past_group c.args.words.now c.args.step c.args.n c.args.first c.args.«end» c.requires.some c.requires.outside c.min-to.result c.loop-group.group
+          (past_group c.args.words.now c.args.step c.args.n c.args.first c.args.«end» c.requires.search.some c.requires.search.outside c.min-to.result c.loop-group.group
           (elim (leb_tells c.words_for-high.result (64 * (c.loop-group.group - 1) + 64)) [ inl ended ↦ (let e = ended.1 in inl (omega arith)) | inr later ↦ (let l = later.1 in inr (omega arith)) ])
           c.loop-group.invariant.above);
     }
@@ -44,7 +44,7 @@ loop-group-preserved g c =
     let to = c.min-to.ensures in
     let high = c.words_for-high.ensures in
     let last = c.words_for-last.ensures in
-    let room = c.requires.inside in
+    let room = c.requires.search.inside in
     let inv = c.loop-group.invariant in
     let low = inv.low in
     let paid = inv.cost in
@@ -53,11 +53,11 @@ loop-group-preserved g c =
     let searched = c.find_in_group.ensures.cost in
     record {
       low = omega arith;
-      above = group_down c.args.words.now c.args.step c.args.n c.args.first c.args.«end» c.requires.some c.requires.outside c.max-from.result c.min-to.result c.loop-group.group
+      above = group_down c.args.words.now c.args.step c.args.n c.args.first c.args.«end» c.requires.search.some c.requires.search.outside c.max-from.result c.min-to.result c.loop-group.group
           (elim (leb_tells (c.args.first / 64) (64 * (c.loop-group.group - 1))) [ inl before ↦ (let b = before.1 in inl (omega arith)) | inr outer ↦ (let o = outer.1 in inr (omega arith)) ])
           (omega arith)
           c.in_default.ensures.run
-          (past_group c.args.words.now c.args.step c.args.n c.args.first c.args.«end» c.requires.some c.requires.outside c.min-to.result c.loop-group.group
+          (past_group c.args.words.now c.args.step c.args.n c.args.first c.args.«end» c.requires.search.some c.requires.search.outside c.min-to.result c.loop-group.group
           (elim (leb_tells c.words_for-high.result (64 * (c.loop-group.group - 1) + 64)) [ inl ended ↦ (let e = ended.1 in inl (omega arith)) | inr later ↦ (let l = later.1 in inr (omega arith)) ])
           inv.above);
       cost = omega arith;
@@ -67,10 +67,11 @@ loop-group-preserved g c =
 pub returns-clause-run : goal.returns-clause-run
 returns-clause-run g c =
     let test = c.loop-group-test.false in
-    let room = c.requires.inside in
-    let order = c.requires.order in
+    let room = c.requires.search.inside in
+    let order = c.requires.search.room in
+    let some = c.requires.search.some in
     no_run_join c.args.words.now c.args.step c.args.n 0 (4096 * c.loop-group.group) (64 * length c.args.words.now)
-    (no_run_below c.args.words.now c.args.step c.args.n c.args.first c.args.«end» c.requires.some c.requires.outside 0 (4096 * c.loop-group.group) (omega arith) (omega arith))
+    (no_run_below c.args.words.now c.args.step c.args.n c.args.first c.args.«end» c.requires.search.some c.requires.search.outside 0 (4096 * c.loop-group.group) (omega arith) (omega arith))
     c.loop-group.invariant.above
 
 pub returns-clause-cost : goal.returns-clause-cost
@@ -80,7 +81,7 @@ returns-clause-cost g c =
     let last = c.words_for-last.ensures in
     let low = c.loop-group.invariant.low in
     let paid = c.loop-group.invariant.cost in
-    let most = looks_all c.args.first c.args.«end» c.requires.order in
+    let most = looks_all c.args.first c.args.«end» (let some = c.requires.search.some in let room = c.requires.search.room in omega arith) in
     omega arith
 
 pub returns-clause-one : goal.returns-clause-one
@@ -90,5 +91,5 @@ returns-clause-one g c = λ single.
     let last = c.words_for-last.ensures in
     let low = c.loop-group.invariant.low in
     let paid = c.loop-group.invariant.one single in
-    let most = looks_one c.args.first c.args.«end» c.requires.order in
+    let most = looks_one c.args.first c.args.«end» (let some = c.requires.search.some in let room = c.requires.search.room in omega arith) in
     omega arith
