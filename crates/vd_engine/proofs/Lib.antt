@@ -3,6 +3,8 @@ pub mod Search
 pub mod Memory
 pub mod PagesShown
 pub mod Names
+pub mod Marks
+pub mod Zeros
 pub mod Turns
 pub mod Buffers
 pub mod Loads
@@ -10,4 +12,5 @@ pub mod Maps
 pub mod Unmaps
 pub mod Deeds
 pub mod Served
+pub mod Waits
 pub mod Plays

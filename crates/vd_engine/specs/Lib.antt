@@ -1,3 +1,4 @@
+pub mod Kept
 pub mod Pages
 pub mod Back
 pub mod Held
@@ -5,3 +6,5 @@ pub mod Stands
 pub mod Frugal
 pub mod Machine
 pub mod Written
+pub mod Replies
+pub mod Played

@@ -192,9 +192,10 @@ impl Device {
         };
         let mapping = Mapped::new(self.made, slot, want);
         let answer = mapped_answer(self.alloc, self.made, PAGE_SIZE * slot)?;
+        self.live.reserve(1)?;
+        self.bounce.show(&mapping, text)?;
         self.live.push(mapping)?;
         self.made += 1;
-        self.bounce.show(&mapping, text);
         Ok(answer)
     }
 

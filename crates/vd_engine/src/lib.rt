@@ -10,10 +10,12 @@ mod bounce;
 mod buffer;
 mod device;
 mod engine;
+mod kept;
 mod place;
 mod script;
 mod streaming;
 mod top;
+mod waiting;
 
 pub use engine::{Engine, Stepped};
 pub use script::Exit;

@@ -8,11 +8,14 @@ ghost use Rattle.vd_model.specs.Served.{served_reading};
 ghost use Rattle.vd_model.specs.Replies.{reply_line};
 ghost use Rattle.vd_engine.specs.Machine.{StandsFor};
 ghost use Rattle.vd_engine.specs.Stands.{plain};
-ghost use Rattle.vd_engine.specs.Written.{Says, Stopped, Appended, AppendedFront, Flushed, Replied, Played, EndsAt, stop_of_status, status_of, line_of, is_status, is_own};
+ghost use Rattle.vd_engine.specs.Written.{EndsAt, stop_of_status, is_status};
+ghost use Rattle.vd_engine.specs.Replies.{Cut, Flushed};
+ghost use Rattle.vd_engine.specs.Played.{Says, Stopped, Replied, Answered, Played, status_of, line_of, is_own};
 
 use crate::engine::Engine;
+use crate::waiting::Waiting;
 use std::alloc::{AllocError, Global};
-use vd_io::{Failed, Image, Sink, Source};
+use vd_io::{Image, Sink, Source};
 use vd_lines::{LineReader, Next, ReadFault};
 use vd_model::{Answer, Bytes, Lines, Step};
 use vd_options::Options;
@@ -51,23 +54,6 @@ pub enum Stop {
     TooLong,
 }
 
-/// Writes all of the bytes, or a front of them.
-fn write_all<K: Sink>(sink: &mut K, bytes: &[u8]) -> Result<(), Failed>
-    ensures all { OnOk result (Appended (K.held sink.old) (K.held sink.new) bytes.now) }
-    ensures front { AppendedFront (K.held sink.old) (K.held sink.new) bytes.now }
-    ensures later { K.faults sink.old ≤ K.faults sink.new }
-    ensures failed { IsErr result → Rose (K.faults sink.old) (K.faults sink.new) }
-{
-    let mut at = 0;
-    while at < bytes.len() {
-        match sink.push(&bytes[at..]) {
-            Ok(n) => at += n,
-            Err(failed) => return Err(failed),
-        }
-    }
-    Ok(())
-}
-
 /// Answers a line, and appends its reply.
 fn answer_line<L: Language, I: Image>(
     alloc: Global,
@@ -98,20 +84,21 @@ fn answer_line<L: Language, I: Image>(
     }
 }
 
-/// Answers a line, and appends its reply to those that wait.
+/// Answers a line before which so many others stand, and adds its reply to those that wait.
 fn answer_onto<L: Language, I: Image>(
     alloc: Global,
     language: &L,
     engine: &mut Engine,
     disk: &mut I,
     line: &[u8],
-    out: &mut Bytes,
+    lines: u64,
+    waiting: &mut Waiting,
     reply: &mut Bytes,
 ) -> Result<(), Stop>
     requires room { engine.old.asked < 2 ^ 40 }
-    ensures ok { (x : Setting) (h : History) → StandsFor x h engine.old → MatchResult result (λ _. Replied x h line.now out.old out.new engine.new) (Stopped line.now) }
+    ensures ok { (x : Setting) (h : History) → StandsFor x h engine.old → MatchResult result (λ _. Answered x h line.now lines waiting.old waiting.new engine.new) (Stopped line.now) }
     ensures asked { engine.new.asked ≤ engine.old.asked + 1 }
-    ensures kept { OnErr result (out.new ≡ out.old) }
+    ensures kept { OnErr result (waiting.new ≡ waiting.old) }
     ensures own { IfErr result (λ stop. is_own stop ≡ true) }
 {
     reply.clear();
@@ -119,107 +106,88 @@ fn answer_onto<L: Language, I: Image>(
         Err(stop) => return Err(stop),
         Ok(()) => {}
     }
-    match out.extend_from_slice(reply.as_slice()) {
+    match waiting.add(reply.as_slice(), lines) {
         Err(AllocError) => Err(Stop::Memory),
         Ok(()) => Ok(()),
     }
 }
 
-/// Writes the replies that wait, once they are many, and notes that so many lines are written.
-fn flush<K: Sink>(
-    out: &mut Bytes,
-    sink: &mut K,
-    lines: u64,
-    flushed: &mut u64,
-) -> Result<(), Failed>
-    requires { flushed.old ≤ lines }
-    ensures noted { flushed.new ≤ lines }
-    ensures ok { OnOk result (Flushed (K.held sink.old) (K.held sink.new) out.old out.new) }
-    ensures front { OnErr result (AppendedFront (K.held sink.old) (K.held sink.new) out.old) }
+/// Writes the replies that wait, once they are many. If the sink fails, it answers to how many
+/// lines the replies were written whole.
+fn flush<K: Sink>(waiting: &mut Waiting, sink: &mut K) -> Result<(), u64>
+    ensures ok { OnOk result (Flushed waiting.old waiting.new (K.held sink.old) (K.held sink.new)) }
+    ensures front { IfErr result (λ lines. Cut waiting.old lines (K.held sink.old) (K.held sink.new)) }
     ensures later { K.faults sink.old ≤ K.faults sink.new }
     ensures failed { IsErr result → Rose (K.faults sink.old) (K.faults sink.new) }
 {
-    if out.len() < FLUSH {
+    if waiting.len() < FLUSH {
         return Ok(());
     }
-    write_all(sink, out.as_slice())?;
-    out.clear();
-    *flushed = lines;
-    Ok(())
+    waiting.write(sink)
 }
 
-/// Where a script has come: why it stopped, how many lines were answered, and of how many the
-/// replies were written when they were last written.
+/// Where a script has come: why it stopped, and how many lines were answered; where the sink
+/// failed, to how many lines the replies were written whole.
 #[derive(Clone, Copy, Debug, PartialEq, Eq)]
 pub struct Progress {
     pub stop: Stop,
     pub lines: u64,
-    pub flushed: u64,
 }
 
 /// Answers the lines that the source gives, until there is none or one stops the run. The replies
-/// are written in large pieces; the last of them are left in `out`.
+/// are written in large pieces; the last of them are left to wait.
 fn play<L: Language, S: Source, K: Sink, I: Image>(
     alloc: Global,
     language: &L,
     engine: &mut Engine,
-    out: &mut Bytes,
+    waiting: &mut Waiting,
     source: &mut S,
     sink: &mut K,
     disk: &mut I,
 ) -> Progress
     requires asked { engine.old.asked ≡ 0 }
-    requires empty { out.old ≡ [] }
+    requires empty { waiting.old.bytes ≡ [] }
     ensures played { (x : Setting) (text : List ℕ) → StandsFor x [] engine.old → S.left source.old ≡ Some text →
-        Played x text result.stop result.lines out.new (S.left source.new) (K.held sink.old) (K.held sink.new) }
+        Played x text result.stop result.lines waiting.new (S.left source.new) (K.held sink.old) (K.held sink.new) }
     ensures source_failed { result.stop ≡ Stop.SourceFailed → Rose (S.faults source.old) (S.faults source.new) }
     ensures sink_failed { result.stop ≡ Stop.SinkFailed → Rose (K.faults sink.old) (K.faults sink.new) }
     ensures source_later { S.faults source.old ≤ S.faults source.new }
     ensures sink_later { K.faults sink.old ≤ K.faults sink.new }
-    ensures few { result.lines < 2 ^ 62 }
-    ensures noted { result.flushed ≤ result.lines }
+    ensures few { is_own result.stop ≡ true → result.lines < 2 ^ 62 }
 {
     let mut reader = LineReader::new(alloc);
     let mut reply = Bytes::new(alloc);
     let mut lines = 0;
-    let mut flushed = 0;
     loop {
         match reader.advance(source) {
             Ok(Next::Line) => {}
             Ok(Next::Last) => {
                 let line = reader.line();
-                return match answer_onto(alloc, language, engine, disk, line, out, &mut reply) {
-                    Err(stop) => Progress {
-                        stop,
-                        lines,
-                        flushed,
-                    },
+                return match answer_onto(
+                    alloc, language, engine, disk, line, lines, waiting, &mut reply,
+                ) {
+                    Err(stop) => Progress { stop, lines },
                     Ok(()) => Progress {
                         stop: Stop::End,
                         lines: lines + 1,
-                        flushed,
                     },
                 };
             }
             Ok(Next::End) => return Progress {
                 stop: Stop::End,
                 lines,
-                flushed,
             },
             Err(ReadFault::Failed) => return Progress {
                 stop: Stop::SourceFailed,
                 lines,
-                flushed,
             },
             Err(ReadFault::TooLong) => return Progress {
                 stop: Stop::TooLong,
                 lines,
-                flushed,
             },
             Err(ReadFault::Memory) => return Progress {
                 stop: Stop::Memory,
                 lines,
-                flushed,
             },
         }
         match answer_onto(
@@ -228,22 +196,18 @@ fn play<L: Language, S: Source, K: Sink, I: Image>(
             engine,
             disk,
             reader.line(),
-            out,
+            lines,
+            waiting,
             &mut reply,
         ) {
-            Err(stop) => return Progress {
-                stop,
-                lines,
-                flushed,
-            },
+            Err(stop) => return Progress { stop, lines },
             Ok(()) => {}
         }
         lines += 1;
-        match flush(out, sink, lines, &mut flushed) {
-            Err(Failed) => return Progress {
+        match flush(waiting, sink) {
+            Err(written) => return Progress {
                 stop: Stop::SinkFailed,
-                lines,
-                flushed,
+                lines: written,
             },
             Ok(()) => {}
         }
@@ -251,9 +215,9 @@ fn play<L: Language, S: Source, K: Sink, I: Image>(
 }
 
 /// How a script ended: its status, the line at which it stopped if a line stopped it, how many
-/// lines' replies were written, and the lines at which the image failed. Status 0: all lines were
-/// answered. 2: the words are not those of a run. 3: the source failed. 4: the sink failed. 5: want
-/// of memory. 6: the line is not in the grammar. 7: the line or the script is too long.
+/// lines' replies were written whole, and the lines at which the image failed. Status 0: all lines
+/// were answered. 2: the words are not those of a run. 3: the source failed. 4: the sink failed. 5:
+/// want of memory. 6: the line is not in the grammar. 7: the line or the script is too long.
 #[derive(Drop)]
 pub struct Exit {
     pub status: u8,
@@ -262,9 +226,24 @@ pub struct Exit {
     pub disk_failures: Lines,
 }
 
+/// An end at which the image never failed.
+fn exit_at(alloc: Global, status: u8, line: u64, lines_done: u64) -> Exit
+    ensures status { result.status ≡ status }
+    ensures line { result.line ≡ line }
+    ensures lines_done { result.lines_done ≡ lines_done }
+    ensures disk_failures { result.disk_failures ≡ [] }
+{
+    Exit {
+        status,
+        line,
+        lines_done,
+        disk_failures: Lines::new(alloc),
+    }
+}
+
 /// The end of a script that stopped so.
 fn ended(alloc: Global, stop: Stop, lines: u64) -> Exit
-    requires { lines < 2 ^ 62 }
+    requires { is_own stop ≡ true → lines < 2 ^ 62 }
     ensures stop { stop_of_status result.status ≡ stop }
     ensures status { result.status ≡ status_of stop }
     ensures line { result.line ≡ line_of stop lines }
@@ -279,12 +258,7 @@ fn ended(alloc: Global, stop: Stop, lines: u64) -> Exit
         Stop::BadLine => (6, lines + 1),
         Stop::TooLong => (7, lines + 1),
     };
-    Exit {
-        status,
-        line,
-        lines_done: lines,
-        disk_failures: Lines::new(alloc),
-    }
+    exit_at(alloc, status, line, lines)
 }
 
 /// Runs the script that the source gives.
@@ -308,13 +282,21 @@ pub fn run<L: Language, S: Source, K: Sink, I: Image>(
         Ok(engine) => engine,
         Err(AllocError) => return ended(alloc, Stop::Memory, 0),
     };
-    let mut out = Bytes::new(alloc);
-    let played = play(alloc, language, &mut engine, &mut out, source, sink, disk);
+    let mut waiting = Waiting::new(alloc);
+    let played = play(
+        alloc,
+        language,
+        &mut engine,
+        &mut waiting,
+        source,
+        sink,
+        disk,
+    );
     match played.stop {
-        Stop::SinkFailed => ended(alloc, Stop::SinkFailed, played.flushed),
-        stop => match write_all(sink, out.as_slice()) {
+        Stop::SinkFailed => ended(alloc, Stop::SinkFailed, played.lines),
+        stop => match waiting.write(sink) {
             Ok(()) => ended(alloc, stop, played.lines),
-            Err(Failed) => ended(alloc, Stop::SinkFailed, played.flushed),
+            Err(written) => ended(alloc, Stop::SinkFailed, written),
         },
     }
 }
@@ -326,10 +308,5 @@ pub fn usage(alloc: Global) -> Exit
     ensures lines_done { result.lines_done ≡ 0 }
     ensures disk_failures { result.disk_failures ≡ [] }
 {
-    Exit {
-        status: 2,
-        line: 0,
-        lines_done: 0,
-        disk_failures: Lines::new(alloc),
-    }
+    exit_at(alloc, 2, 0, 0)
 }

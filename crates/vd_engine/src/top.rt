@@ -8,7 +8,8 @@ ghost use Rattle.vd_model.specs.Replies.{reply_line};
 ghost use Rattle.vd_model.specs.Out.{stop_of, At_the_end};
 ghost use Rattle.vd_options.specs.Words.{Sizes, asked_sizes};
 ghost use Rattle.vd_engine.specs.Stands.{plain};
-ghost use Rattle.vd_engine.specs.Written.{Says, EndsAt, stop_of_status, is_status};
+ghost use Rattle.vd_engine.specs.Written.{EndsAt, stop_of_status, is_status};
+ghost use Rattle.vd_engine.specs.Played.{Says};
 
 use crate::script::{Exit, Language, Line, run, usage};
 use std::alloc::{AllocError, Global};

@@ -3,6 +3,7 @@ ghost use Rattle.vd_io.specs.Told.{Pulled, Rose};
 ghost use Rattle.vd_lines.specs.Ahead.{Ahead, IsOneLine, IsFilled};
 ghost use Rattle.vd_lines.specs.IsAt.{IsAt, IsNext};
 
+use memchr::memchr;
 use std::alloc::{AllocError, Global};
 use std::marker::Model;
 use vd_io::{Failed, Source};
@@ -63,12 +64,7 @@ impl Model for LineReader {
 fn line_end(bytes: &[u8]) -> Option<usize>
     ensures { MatchOption result (IsOneLine bytes.now) (λ i. (i < length bytes.now) × (slice_index bytes.now i ≡ 10) × ((k : ℕ) → k < i → slice_index bytes.now k ≢ 10)) }
 {
-    for (i, byte) in bytes.iter().enumerate() {
-        if *byte == b'\n' {
-            return Some(i);
-        }
-    }
-    None
+    memchr(b'\n', bytes)
 }
 
 impl LineReader {

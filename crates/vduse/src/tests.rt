@@ -26,18 +26,33 @@ fn words_of(alloc: Global, words: &[&str]) -> Result<Vec<String>, AllocError> {
     Ok(all)
 }
 
-/// Runs a script; the call of each of the numbers fails.
+/// What fails of the outside: the calls of each of the numbers, and each that finds no room left.
+#[derive(Clone, Copy)]
+struct Outside<'a> {
+    pulls: &'a [u64],
+    pushes: &'a [u64],
+    room: u64,
+}
+
+/// An outside at which nothing fails.
+const SOUND: Outside<'static> = Outside {
+    pulls: &[],
+    pushes: &[],
+    room: 65536,
+};
+
+/// Runs a script.
 fn check(
     rt: &impl Abort,
     alloc: Global,
     case: &Case<'_>,
-    pulls: &[u64],
-    pushes: &[u64],
+    outside: Outside<'_>,
 ) -> Result<(), AllocError> {
     let words = words_of(alloc, case.words)?;
     let text = Bytes::from_vec(case.script.as_bytes().to_vec(alloc)?);
-    let mut source = MemSource::new(text, Lines::from_vec(pulls.to_vec(alloc)?));
-    let mut sink = MemSink::new(alloc, 65536, Lines::from_vec(pushes.to_vec(alloc)?))?;
+    let mut source = MemSource::new(text, Lines::from_vec(outside.pulls.to_vec(alloc)?));
+    let pushes = Lines::from_vec(outside.pushes.to_vec(alloc)?);
+    let mut sink = MemSink::new(alloc, outside.room, pushes)?;
     let mut disk = MemImage::new(alloc, 0, Lines::new(alloc))?;
     let exit = script_top(alloc, &words, &mut source, &mut sink, &mut disk);
     assert_eq!(rt; exit.status, case.status);
@@ -118,40 +133,76 @@ fn worked_scripts(rt: HostRuntime) -> Result<(), Fail> {
         },
     ];
     for case in &cases {
-        check(&rt, rt.alloc(), case, &[], &[])?;
+        check(&rt, rt.alloc(), case, SOUND)?;
     }
     Ok(())
 }
 
 #[test]
 fn faults_of_the_outside(rt: HostRuntime) -> Result<(), Fail> {
-    let run = ["run", "--bounce-pages", "2"];
     let source = Case {
-        words: &run,
+        words: &["run", "--bounce-pages", "2"],
         script: "dev v\n",
         replies: "",
         status: 3,
         line: 0,
         lines_done: 0,
     };
-    check(&rt, rt.alloc(), &source, &[0], &[])?;
-    let taken = Case {
-        words: &run,
-        script: "dev v\n",
-        replies: "ok session 0\n",
-        status: 3,
-        line: 0,
-        lines_done: 1,
+    let first_pull = Outside {
+        pulls: &[0],
+        ..SOUND
     };
-    check(&rt, rt.alloc(), &taken, &[1], &[])?;
+    check(&rt, rt.alloc(), &source, first_pull)?;
+    let taken = Case {
+        replies: "ok session 0\n",
+        lines_done: 1,
+        ..source
+    };
+    let second_pull = Outside {
+        pulls: &[1],
+        ..SOUND
+    };
+    check(&rt, rt.alloc(), &taken, second_pull)?;
     let sink = Case {
-        words: &run,
-        script: "dev v\n",
-        replies: "",
+        status: 4,
+        ..source
+    };
+    let first_push = Outside {
+        pushes: &[0],
+        ..SOUND
+    };
+    check(&rt, rt.alloc(), &sink, first_push)?;
+    Ok(())
+}
+
+/// The sink fails within the reply to line 4. Line 3, a comment, is done then.
+#[test]
+fn part_of_a_reply(rt: HostRuntime) -> Result<(), Fail> {
+    let case = Case {
+        words: &["run", "--bounce-pages", "2"],
+        script: "dev v\nbuf v 61\n# one more\nbuf v 62\npeek v 0 0 1\n",
+        replies: "ok session 0\nok 0\nok",
         status: 4,
         line: 0,
-        lines_done: 0,
+        lines_done: 3,
     };
-    check(&rt, rt.alloc(), &sink, &[], &[0])?;
+    let small = Outside { room: 20, ..SOUND };
+    check(&rt, rt.alloc(), &case, small)?;
+    Ok(())
+}
+
+#[test]
+fn long_line(rt: HostRuntime) -> Result<(), Fail> {
+    let long = "#".repeat(rt.alloc(), 65537)?;
+    let script = format!(in rt.alloc(); "dev v\n{long}\nbuf v 61\n")?;
+    let case = Case {
+        words: &["run", "--bounce-pages", "2"],
+        script: &script,
+        replies: "ok session 0\n",
+        status: 7,
+        line: 2,
+        lines_done: 1,
+    };
+    check(&rt, rt.alloc(), &case, SOUND)?;
     Ok(())
 }

@@ -7,11 +7,10 @@ use Rattle.vd_engine.proofs.script.play.Given as goal
 abbrev pub invariant-loop-reader : goal.invariant-loop-reader
 invariant-loop-reader g l = record {
   playing : (x : Setting) (text : List ℕ) → StandsFor x [] l.fn.engine → g.S.Source.left l.fn.source ≡ Some text
-      → Playing x text l.lines l.out l.engine l.reader (g.S.Source.left l.source) (g.K.Sink.held l.fn.sink) (g.K.Sink.held l.sink);
+      → Playing x text l.lines l.waiting l.engine l.reader (g.S.Source.left l.source) (g.K.Sink.held l.fn.sink) (g.K.Sink.held l.sink);
   asked : l.engine.asked ≤ l.lines;
   room : l.lines + (67108864 - l.reader.taken + length l.reader.pending) ≤ 67108864;
   taken : l.reader.taken ≤ 67108864;
-  flushed : l.flushed ≤ l.lines;
   source : g.S.Source.faults l.fn.source ≤ g.S.Source.faults l.source;
   sink : g.K.Sink.faults l.fn.sink ≤ g.K.Sink.faults l.sink;
 }

@@ -15,8 +15,8 @@ returns-in-None-clause-ok c = λ x done s.
 pub invariant_of-self-2 : goal.invariant_of-self-2
 invariant_of-self-2 c =
     let m : Streaming = record { number = c.self.inside.made; slot = c.in-Some.slot; want = c.args.want } in
-    let pushed : c.push.new.self.items ≡ c.self.inside.live.items ++ m ∷ [] = c.in_ok-push.ensures.items ∙ ap (λ k. c.self.inside.live.items ++ k ∷ []) c.new-mapping.ensures in
-    let shown : Shown m c.in-Ok.text.now c.self.inside.bounce c.show.new.self = subst (λ k. Shown k c.in-Ok.text.now c.self.inside.bounce c.show.new.self) c.new-mapping.ensures c.show.ensures.shown in
+    let pushed : c.push.new.self.items ≡ c.self.inside.live.items ++ m ∷ [] = c.in_ok-push.ensures.items ∙ ap (λ l. l ++ c.new-mapping.result ∷ []) c.reserve.ensures.items ∙ ap (λ k. c.self.inside.live.items ++ k ∷ []) c.new-mapping.ensures in
+    let shown : Shown m c.in-Ok.text.now c.self.inside.bounce c.show.new.self = subst (λ k. Shown k c.in-Ok.text.now c.self.inside.bounce c.show.new.self) c.new-mapping.ensures c.in_ok-show.ensures.shown in
     record {
       buffered = c.self.invariant.buffered;
       live = live_more c.self.inside.buffers.items c.self.inside.bounce c.show.new.self c.self.inside.live.items c.push.new.self.items m c.in-Ok.text.now pushed c.self.invariant.live
@@ -30,8 +30,8 @@ invariant_of-self-2 c =
 pub returns-clause-ok : goal.returns-clause-ok
 returns-clause-ok c = λ x done s.
     let m : Streaming = record { number = c.self.inside.made; slot = c.in-Some.slot; want = c.args.want } in
-    let pushed : c.push.new.self.items ≡ c.self.inside.live.items ++ m ∷ [] = c.in_ok-push.ensures.items ∙ ap (λ k. c.self.inside.live.items ++ k ∷ []) c.new-mapping.ensures in
-    let shown : Shown m c.in-Ok.text.now c.self.inside.bounce c.show.new.self = subst (λ k. Shown k c.in-Ok.text.now c.self.inside.bounce c.show.new.self) c.new-mapping.ensures c.show.ensures.shown in
+    let pushed : c.push.new.self.items ≡ c.self.inside.live.items ++ m ∷ [] = c.in_ok-push.ensures.items ∙ ap (λ l. l ++ c.new-mapping.result ∷ []) c.reserve.ensures.items ∙ ap (λ k. c.self.inside.live.items ++ k ∷ []) c.new-mapping.ensures in
+    let shown : Shown m c.in-Ok.text.now c.self.inside.bounce c.show.new.self = subst (λ k. Shown k c.in-Ok.text.now c.self.inside.bounce c.show.new.self) c.new-mapping.ensures c.in_ok-show.ensures.shown in
     let held = stands_inside c.self.view_is s in
     let range = subst (λ b. IsRange b c.args.want.buffer c.args.want.offset c.args.want.len c.in-Ok.text.now) c.deref.ensures.value c.in-Ok.ensures in
     map_takes x done _ held c.args.want c.in-Ok.text.now c.in-Some.slot c.in_ok-answer.answer _ range

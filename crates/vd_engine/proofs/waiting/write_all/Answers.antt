@@ -1,8 +1,8 @@
-use Rattle.std.proofs.Common.{ap, sym, subst, arith, length, length-drop}
+use Rattle.std.proofs.Common.{ap, sym, subst, arith, length, take, length-drop}
 use Rattle.vd_io.specs.Told.{Pushed}
-use Rattle.vd_engine.specs.Written.{AppendedFront}
-use Rattle.vd_engine.proofs.Plays.{appended_more, appended_front, take_rest}
-use Rattle.vd_engine.proofs.script.write_all.Goals as goal
+use Rattle.vd_engine.specs.Written.{Appended}
+use Rattle.vd_engine.proofs.Waits.{appended_more, take_rest}
+use Rattle.vd_engine.proofs.waiting.write_all.Goals as goal
 
 pub loop-at-preserved : goal.loop-at-preserved
 loop-at-preserved g c =
@@ -17,5 +17,4 @@ loop-at-preserved g c =
     }
 
 pub returns-in-Err-clause-front : goal.returns-in-Err-clause-front
-returns-in-Err-clause-front g c =
-    subst (λ o. AppendedFront (g.K.Sink.held c.args.sink.now) o c.args.bytes.now) (sym c.in-Err.ensures.kept) (appended_front c.loop-at.at c.args.bytes.now _ _ c.loop-at.invariant.appended)
+returns-in-Err-clause-front g c = subst (λ o. Appended (g.K.Sink.held c.args.sink.now) o (take c.loop-at.at c.args.bytes.now)) (sym c.in-Err.ensures.kept) c.loop-at.invariant.appended

@@ -1,0 +1,100 @@
+-- Where a run stands, and where it stopped, before the last replies are written.
+use Rattle.std.specs.Prelude.{ℕ, ◌+◌, ◌<◌, ◌≤◌, ◌≡◌, List, [], ◌++◌, Option, Some, None, length, take, Bool, true, false, is_some}
+use Rattle.std.specs.List.{list_all}
+use Rattle.vd_model.specs.declared.step.Step.{Step}
+use Rattle.vd_model.specs.Setting.{Setting}
+use Rattle.vd_model.specs.History.{History}
+use Rattle.vd_model.specs.Served.{served_reading}
+use Rattle.vd_model.specs.Out.{is_good, good_lines, stop_of, At_the_end, Not_in_grammar, Too_long, later_of, reply_to, out_from}
+use Rattle.vd_lines.specs.IsAt.{IsTaken}
+use Rattle.vd_engine.specs.declared.script.Line.{Line}
+use Rattle.vd_engine.specs.declared.script.Line.TheVariants.{Bad, Nothing, Asks}
+use Rattle.vd_engine.specs.declared.script.Stop.{Stop}
+use Rattle.vd_engine.specs.declared.script.Stop.TheVariants.{End, SourceFailed, SinkFailed, Memory, BadLine, TooLong}
+use Rattle.vd_engine.specs.Machine.{Machine, StandsFor}
+use Rattle.vd_engine.specs.Stands.{plain}
+use Rattle.vd_engine.specs.Replies.{Replies, Added, line_at}
+use Rattle.vd_engine.specs.Written.{Appended, AppendedCut}
+
+-- what a line was read as
+abbrev pub Says : Line → Option (Option Step) → Type 0
+Says Bad read = read ≡ None
+Says Nothing read = read ≡ Some None
+Says (Asks step) read = read ≡ Some (Some step)
+
+-- the reply to a line was added, and the engine stands for the history with it
+pub record Replied (x : Setting) (h : History) (line old new : List ℕ) (engine : Machine) : Type 0 where
+  pub said : is_some (served_reading line) ≡ true
+  pub stands : StandsFor x (later_of [] 0 (served_reading line) h) engine
+  pub text : new ≡ old ++ reply_to [] (plain x) 0 h (served_reading line)
+
+-- the reply to a line waits with the others
+pub record Answered (x : Setting) (h : History) (line : List ℕ) (lines : ℕ) (old new : Replies) (engine : Machine) : Type 0 where
+  pub reply : List ℕ
+  pub replied : Replied x h line [] reply engine
+  pub waits : Added reply lines old new
+
+-- why a line isn't answered
+abbrev pub Stopped : List ℕ → Stop → Type 0
+Stopped line BadLine = served_reading line ≡ None
+Stopped line Memory = Unit {0}
+Stopped line _ = ⊥
+
+-- no fault of the source or of the sink
+abbrev pub is_own : Stop → Bool
+is_own SourceFailed = false
+is_own SinkFailed = false
+is_own _ = true
+
+-- the byte at place n of the replies to these lines is of the reply to the one after the first k
+pub record IsIn (x : Setting) (done : List (List ℕ)) (k n : ℕ) : Type 0 where
+  pub within : k < length done
+  pub begins : length (out_from [] x 1 [] (take k done)) ≤ n
+  pub ends : n < length (out_from [] x 1 [] (take (k + 1) done))
+
+-- of the replies to these lines a front was written, and the rest waits
+pub record Waits (x : Setting) (done : List (List ℕ)) (waiting : Replies) (old new : Option (List ℕ)) : Type 0 where
+  pub front : List ℕ
+  pub written : Appended old new front
+  pub all : front ++ waiting.bytes ≡ out_from [] x 1 [] done
+  pub line : (n : ℕ) → n < length waiting.bytes → IsIn x done (line_at waiting n) (length front + n)
+
+-- where a run that stopped so stopped in the text
+abbrev pub StopsAt : List ℕ → List (List ℕ) → Option (List ℕ) → Stop → Type 0
+StopsAt text done left End = (stop_of text ≡ At_the_end) × (good_lines text ≡ done) × (left ≡ Some [])
+StopsAt text done left BadLine = (stop_of text ≡ Not_in_grammar (length done + 1)) × (good_lines text ≡ done)
+StopsAt text done left TooLong = (stop_of text ≡ Too_long (length done + 1)) × (good_lines text ≡ done)
+StopsAt text done left SourceFailed = IsTaken text done left
+StopsAt text done left SinkFailed = ⊥
+StopsAt text done left Memory = Unit {0}
+
+-- the lines that were answered, whose replies are written or wait, and where the run stopped behind them
+pub record PlayedTo (x : Setting) (text : List ℕ) (stop : Stop) (lines : ℕ) (waiting : Replies) (left old new : Option (List ℕ)) : Type 0 where
+  pub done : List (List ℕ)
+  pub good : list_all is_good done ≡ true
+  pub count : lines ≡ length done
+  pub stops : StopsAt text done left stop
+  -- the run answers these lines first
+  pub after : List (List ℕ)
+  pub first : good_lines text ≡ done ++ after
+  pub waits : Waits (plain x) done waiting old new
+
+-- the same, or where the sink failed, to how many lines the replies are written
+abbrev pub Played : Setting → List ℕ → Stop → ℕ → Replies → Option (List ℕ) → Option (List ℕ) → Option (List ℕ) → Type 0
+Played x text SinkFailed lines waiting left old new = AppendedCut (plain x) text lines old new
+Played x text stop lines waiting left old new = PlayedTo x text stop lines waiting left old new
+
+-- the status of each stop
+abbrev pub status_of : Stop → ℕ
+status_of End = 0
+status_of SourceFailed = 3
+status_of SinkFailed = 4
+status_of Memory = 5
+status_of BadLine = 6
+status_of TooLong = 7
+
+-- the line at which a run stopped, 0 where no line stopped it
+abbrev pub line_of : Stop → ℕ → ℕ
+line_of BadLine lines = lines + 1
+line_of TooLong lines = lines + 1
+line_of _ lines = 0
