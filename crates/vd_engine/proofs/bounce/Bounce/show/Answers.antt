@@ -1,10 +1,10 @@
-use Rattle.std.proofs.Common.{◌≡◌, ◌≤◌, ◌∙◌, sym, ap, subst, length, false, ◌||◌, ◌-◌, ◌*◌, if◌then◌else◌, ℕ, arith}
+use Rattle.std.proofs.Common.{◌≡◌, ◌∙◌, sym, ap, length, false, ◌||◌, ◌-◌, ◌*◌, if◌then◌else◌, arith}
 use Rattle.std.specs.List.{slice_index, slice_index_or}
 use Rattle.vd_num.specs.Number.{is_within}
 use Rattle.vd_model.specs.Live.{iova_of}
 use Rattle.vd_model.specs.Puts.{is_to_device}
 use Rattle.vd_engine.specs.Kept.{all_bytes}
-use Rattle.vd_engine.specs.Pages.{covers, is_page}
+use Rattle.vd_engine.specs.Pages.{covers}
 use Rattle.vd_engine.proofs.Lists.{refilled}
 use Rattle.vd_engine.proofs.PagesShown.{shown_bytes, shown_none, shown_inside, shown_paged}
 use Rattle.vd_engine.proofs.bounce.Bounce.show.Goals as goal
