@@ -17,8 +17,8 @@ use Rattle.vd_model.specs.Setting.{Setting}
 use Rattle.vd_model.specs.Acts.{Act}
 use Rattle.vd_model.specs.Creation.{Creation}
 use Rattle.vd_model.specs.Turn.{Turn, refused, given}
-use Rattle.vd_model.specs.Deeds.{Deed, Made, On, Seen, own, made_with, is_there, devices, seen}
-use Rattle.vd_model.specs.ControlTurns.{Outcome, refuse_all, dev_outcome, dev_made, plain_creation}
+use Rattle.vd_model.specs.Deeds.{Deed, Made, On, own, made_with, is_there, devices, seen}
+use Rattle.vd_model.specs.ControlTurns.{refuse_all, dev_outcome, dev_made, plain_creation}
 use Rattle.vd_model.specs.History.{History, deeds_of, dev_turn, device_turn, on, outcome, reply}
 use Rattle.vd_engine.specs.declared.engine.Named.{Named}
 use Rattle.vd_engine.specs.Stands.{Stands, Takes, plain, first_acts}

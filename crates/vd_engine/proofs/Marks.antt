@@ -1,5 +1,5 @@
 -- The marks of the replies that wait, one reply more.
-use Rattle.std.proofs.Common.{◌≡◌, ℕ, ◌<◌, ◌≤◌, Bool, true, false, refl, ap, subst, ◌∙◌, sym, arith, ◌⊎◌, inl, inr, Option, None, Some, is_some, List, [], ◌∷◌, ◌++◌, length, length-append, find, true≢false}
+use Rattle.std.proofs.Common.{◌≡◌, ℕ, ◌<◌, ◌≤◌, Bool, true, false, refl, ap, ◌∙◌, sym, arith, inl, inr, Option, None, Some, is_some, List, [], ◌∷◌, ◌++◌, length, length-append, find, true≢false}
 use Rattle.std.specs.Option.{option_or}
 use Rattle.std.proofs.lemmas.List.Folds.{find-append}
 use Rattle.std.proofs.lemmas.Bool.Decides.{nat_tests, leb_tells}

@@ -1,5 +1,5 @@
 -- A script, line after line.
-use Rattle.std.proofs.Common.{◌≡◌, ◌≢◌, ℕ, ◌+◌, ◌≤◌, Bool, true, false, refl, ap, subst, sym, ◌∙◌, arith, Option, None, Some, cond, nat_le, ◌&&◌, is_some, List, [], ◌∷◌, ◌++◌, length, length-append, append-nil, true≢false, ◌⊎◌, inl, inr}
+use Rattle.std.proofs.Common.{◌≡◌, ◌≢◌, ℕ, ◌+◌, ◌≤◌, Bool, true, false, refl, ap, subst, sym, ◌∙◌, arith, Option, None, cond, nat_le, ◌&&◌, is_some, List, [], ◌∷◌, ◌++◌, length, length-append, append-nil, true≢false, ◌⊎◌, inl, inr}
 use Rattle.std.specs.List.{list_all, take_while}
 use Rattle.std.proofs.lemmas.List.Sums.{take_while-cons}
 use Rattle.std.proofs.lemmas.List.Folds.{list_all-append}

@@ -12,7 +12,7 @@ use Rattle.vd_model.specs.Acts.{Act, Node, Driver, Request}
 use Rattle.vd_model.specs.Creation.{Creation}
 use Rattle.vd_model.specs.Deeds.{Seen}
 use Rattle.vd_model.specs.Queues.{out, some_pending}
-use Rattle.vd_model.specs.Turn.{Turn, refuse, given, lift}
+use Rattle.vd_model.specs.Turn.{refuse, given, lift}
 use Rattle.vd_model.specs.AreaTurns.{area_turn}
 use Rattle.vd_model.specs.DriverTurns.{driver_turn}
 use Rattle.vd_model.specs.History.{is_kept, dev_turn}

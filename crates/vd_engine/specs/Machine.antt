@@ -1,5 +1,5 @@
 -- What contracts see of an engine, and which history it stands for.
-use Rattle.std.specs.Prelude.{ℕ, ◌<◌, ◌≤◌, ◌^◌, ◌≡◌, List, ◌++◌, length, Bool, true, false, Option, Some, None, All, find, slice_get, is_some}
+use Rattle.std.specs.Prelude.{ℕ, ◌<◌, ◌≤◌, ◌^◌, ◌≡◌, List, ◌++◌, length, Bool, true, false, Option, Some, None, All, find, slice_get}
 use Rattle.std.specs.Str.{bytes_eq}
 use Rattle.vd_model.specs.declared.answer.Answer.{Answer}
 use Rattle.vd_model.specs.Setting.{Setting}

@@ -1,10 +1,9 @@
 -- A reader's place in the text, from one line to the next.
-use Rattle.std.proofs.Common.{◌≡◌, ◌≢◌, ℕ, ◌+◌, ◌-◌, ◌<◌, ◌≤◌, Bool, true, false, refl, ap, subst, ◌∙◌, sym, arith, ◌⊎◌, inl, inr, Option, None, Some, Err, nat_le, List, [], ◌∷◌, ◌++◌, length, take, length-append, append_assoc, append-nil}
+use Rattle.std.proofs.Common.{◌≡◌, ℕ, ◌+◌, ◌-◌, ◌<◌, ◌≤◌, Bool, true, false, refl, ap, subst, ◌∙◌, sym, arith, ◌⊎◌, inl, inr, Option, Some, Err, nat_le, List, [], ◌∷◌, ◌++◌, length, take, length-append, append_assoc, append-nil}
 use Rattle.std.proofs.Math.Seq.{take-append-add}
 use Rattle.std.proofs.lemmas.Bool.Decides.{nat_tests}
-use Rattle.std.specs.List.{list_all}
 use Rattle.vd_model.specs.Reading.{lines}
-use Rattle.vd_model.specs.Out.{ended, script_lines, is_good, good_lines, stop_of, Too_long}
+use Rattle.vd_model.specs.Out.{ended, script_lines}
 use Rattle.vd_lines.specs.declared.reader.ReadFault.{ReadFault}
 use Rattle.vd_lines.specs.declared.reader.ReadFault.TheVariants.{Failed, TooLong, Memory}
 use Rattle.vd_lines.specs.Ahead.{Ahead, IsOneLine, IsFilledBy, IsFilled, IsPast}

@@ -1,10 +1,10 @@
 -- Where a run stops.
-use Rattle.std.proofs.Common.{◌≡◌, ℕ, zero, suc, ◌+◌, ◌-◌, ◌<◌, ◌≤◌, Bool, true, false, refl, ap, subst, ◌∙◌, sym, arith, cond, nat_le, nat_lt, ◌&&◌, List, [], ◌∷◌, ◌++◌, length, take, drop, append_assoc, append-nil, true≢false}
+use Rattle.std.proofs.Common.{◌≡◌, ℕ, ◌+◌, ◌<◌, ◌≤◌, Bool, true, false, refl, ap, ◌∙◌, sym, arith, cond, nat_le, nat_lt, ◌&&◌, List, [], ◌∷◌, ◌++◌, length, take, drop, append-nil, true≢false}
 use Rattle.std.specs.List.{list_all, take_while}
 use Rattle.std.proofs.lemmas.List.Sums.{take_while-cons}
 use Rattle.std.proofs.lemmas.Bool.Decides.{nat_tests}
 use Rattle.vd_model.specs.Reading.{lines}
-use Rattle.vd_model.specs.Out.{Stop, At_the_end, Not_in_grammar, Too_long, ended, script_lines, is_good, good_lines, stop_at, stop_of}
+use Rattle.vd_model.specs.Out.{At_the_end, Not_in_grammar, Too_long, ended, script_lines, is_good, good_lines, stop_at, stop_of}
 
 -- ---- the lines of a script
 

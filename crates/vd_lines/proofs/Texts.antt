@@ -1,5 +1,5 @@
 -- The lines of a text, cut at its first LF.
-use Rattle.std.proofs.Common.{◌≡◌, ◌≢◌, ℕ, zero, suc, ◌+◌, ◌-◌, ◌<◌, ◌≤◌, true, false, refl, ap, subst, ◌∙◌, sym, arith, ◌⊎◌, inl, inr, cond, List, [], ◌∷◌, ◌++◌, ◌==◌, length, append_assoc, append-nil}
+use Rattle.std.proofs.Common.{◌≡◌, ◌≢◌, ℕ, suc, ◌<◌, ◌≤◌, false, refl, ap, subst, ◌∙◌, sym, arith, ◌⊎◌, inl, inr, cond, List, [], ◌∷◌, ◌++◌, ◌==◌, length, append_assoc}
 use Rattle.std.proofs.lemmas.Bool.Decides.{nat_tests}
 use Rattle.vd_model.specs.Reading.{lines, onto_first}
 use Rattle.vd_model.specs.Out.{ended, onto_first_ended}

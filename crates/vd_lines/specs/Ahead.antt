@@ -1,6 +1,5 @@
 -- What contracts see of a reader of lines.
-use Rattle.std.specs.Prelude.{ℕ, ◌+◌, ◌<◌, ◌≤◌, ◌≡◌, ◌≢◌, List, [], ◌∷◌, ◌++◌, length, slice_index, take, Option, Some, None, Result, Ok, Err}
-use Rattle.vd_io.specs.Told.{Pulled}
+use Rattle.std.specs.Prelude.{ℕ, ◌+◌, ◌<◌, ◌≤◌, ◌≡◌, ◌≢◌, List, [], ◌++◌, length, slice_index, Option, Some, None, Result, Ok, Err}
 use Rattle.vd_lines.specs.declared.reader.ReadFault.{ReadFault}
 use Rattle.vd_lines.specs.declared.reader.ReadFault.TheVariants.{Failed, TooLong, Memory}
 

@@ -1,4 +1,4 @@
-use Rattle.std.proofs.Common.{subst, sym, ◌∙◌, arith, ◌≡◌, ◌<◌, ◌≤◌, length}
+use Rattle.std.proofs.Common.{subst, sym, ◌∙◌, arith, ◌<◌, length}
 use Rattle.vd_model.specs.ControlTurns.{dev_outcome}
 use Rattle.vd_engine.specs.Machine.{Results, NoneIs, FirstIs}
 use Rattle.vd_engine.proofs.Deeds.{made_results, exists_results, full_results, all_made, none_of, some_of}

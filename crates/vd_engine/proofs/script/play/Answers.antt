@@ -1,8 +1,6 @@
-use Rattle.std.proofs.Common.{◌≡◌, ◌<◌, ◌≤◌, ◌+◌, ◌-◌, ◌++◌, ◌∷◌, [], Ok, Err, true, false, true≢false, ap, subst, sym, ◌∙◌, refl, arith, length}
-use Rattle.vd_lines.specs.declared.reader.Next.TheVariants.{Line, Last, End}
-use Rattle.vd_lines.specs.declared.reader.ReadFault.TheVariants.{Failed, TooLong}
+use Rattle.std.proofs.Common.{◌≤◌, ◌+◌, ◌++◌, ◌∷◌, [], Ok, Err, true≢false, ap, subst, sym, ◌∙◌, arith, length}
 use Rattle.vd_lines.specs.Ahead.{Ahead}
-use Rattle.vd_lines.specs.IsAt.{IsNext, IsAt, IsRead}
+use Rattle.vd_lines.specs.IsAt.{IsNext, IsRead}
 use Rattle.vd_lines.proofs.Places.{at_first}
 use Rattle.vd_model.specs.Out.{history_after}
 use Rattle.vd_engine.specs.declared.script.Progress.{Progress}

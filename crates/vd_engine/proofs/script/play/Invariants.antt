@@ -1,4 +1,4 @@
-use Rattle.std.proofs.Common.{ℕ, ◌≡◌, ◌≤◌, ◌<◌, ◌+◌, ◌-◌, ◌^◌, List, [], Some, length}
+use Rattle.std.proofs.Common.{ℕ, ◌≡◌, ◌≤◌, ◌+◌, ◌-◌, List, [], Some, length}
 use Rattle.vd_model.specs.Setting.{Setting}
 use Rattle.vd_engine.specs.Machine.{StandsFor}
 use Rattle.vd_engine.proofs.Plays.{Playing}

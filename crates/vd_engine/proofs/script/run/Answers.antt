@@ -1,5 +1,5 @@
-use Rattle.std.proofs.Common.{◌≡◌, ◌≢◌, ◌∙◌, refl, ap, subst, sym, arith, true}
-use Rattle.vd_engine.specs.declared.script.Stop.TheVariants.{SourceFailed, SinkFailed, Memory}
+use Rattle.std.proofs.Common.{◌∙◌, refl, ap, subst, sym, arith}
+use Rattle.vd_engine.specs.declared.script.Stop.TheVariants.{SinkFailed, Memory}
 use Rattle.vd_engine.specs.Stands.{plain}
 use Rattle.vd_engine.specs.Written.{is_status}
 use Rattle.vd_engine.specs.Played.{Played}

@@ -1,4 +1,4 @@
-use Rattle.std.proofs.Common.{◌≡◌, ◌<◌, ◌≤◌, ◌+◌, ◌++◌, ◌∷◌, [], refl, sym, subst, ap, ◌∙◌, arith, length}
+use Rattle.std.proofs.Common.{◌≡◌, ◌<◌, ◌++◌, ◌∷◌, [], refl, sym, subst, ap, ◌∙◌, arith, length}
 use Rattle.vd_lines.specs.Ahead.{Ahead, IsOneLine}
 use Rattle.vd_lines.specs.IsAt.{IsAt, IsRead}
 use Rattle.vd_lines.proofs.Places.{at_cut, at_leads, leads_long, at_long, at_fault, at_filled, at_none, at_last, at_end}

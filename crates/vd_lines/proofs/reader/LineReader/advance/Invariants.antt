@@ -1,4 +1,4 @@
-use Rattle.std.proofs.Common.{◌≡◌, ◌≤◌, ◌-◌, ◌+◌, List, ℕ, length}
+use Rattle.std.proofs.Common.{◌≤◌, ◌-◌, ◌+◌, List, ℕ, length}
 use Rattle.vd_lines.specs.IsAt.{IsAt}
 use Rattle.vd_lines.proofs.reader.LineReader.advance.Given as goal
 
