@@ -1,7 +1,7 @@
 use Rattle.std.proofs.Common.{◌≡◌, ◌∙◌, sym, ap, Some}
 use Rattle.vd_engine.specs.Stands.{plain}
 use Rattle.vd_model.specs.Out.{good_lines, history_after}
-use Rattle.std.specs.Prelude.{take}
+use Rattle.std.specs.Prelude.{[], take}
 use Rattle.vd_laws.proofs.All_of.{all_laws}
 use Rattle.vd_engine.proofs.Plays.{complete}
 use Rattle.vd_engine.proofs.top.script_top.Goals as goal
@@ -12,5 +12,8 @@ returns-in-Ok-clause-complete g c = λ sizes x text asked bounce told whole sour
     let pages : x.bounce ≡ c.in-Ok.options.bounce_pages = bounce ∙ (let e : sizes ≡ record { bounce = c.in-Ok.options.bounce_pages; iova = c.in-Ok.options.iova_pages } = cc in ap (λ s. s.bounce) e) in
     complete (plain x) text c.run.result.status c.run.result.line c.run.result.lines_done _ _ _ c.run.ensures.known (c.run.ensures.ended x text pages told) whole (λ three. source (c.run.ensures.source_failed three)) (λ four. sink (c.run.ensures.sink_failed four))
 
-pub returns-clause-laws : goal.returns-clause-laws
-returns-clause-laws c = λ x text n told. all_laws (plain x) (history_after [] 1 [] (take n (good_lines text)))
+pub returns-in-Ok-clause-laws : goal.returns-in-Ok-clause-laws
+returns-in-Ok-clause-laws g c = λ x text n told. all_laws (plain x) (history_after [] 1 [] (take n (good_lines text)))
+
+pub returns-in-Err-clause-laws : goal.returns-in-Err-clause-laws
+returns-in-Err-clause-laws g c = λ x text n told. all_laws (plain x) (history_after [] 1 [] (take n (good_lines text)))
