@@ -30,3 +30,19 @@ no_table = record { words = 0; slots = 0; views_name = 0; atom = 0; block = 0; o
 
 abbrev pub no_numbers : Numbers
 no_numbers = record { bounce = 0; pages = 0; timeout = 0 }
+
+-- the state under a lock: the entries of its journal, and how many there were when the last note was made
+pub record StateView : Type 0 where
+  pub entries : List Entry
+  pub noted : ℕ
+
+-- the messages before they have a name: their journal's table, and their timeout in seconds
+pub record NewMessagesView : Type 0 where
+  pub table : TableId
+  pub timeout : ℕ
+
+-- the memory before it has a name: its journal's table, its bounce pages and all its pages
+pub record NewDomainView : Type 0 where
+  pub table : TableId
+  pub bounce : ℕ
+  pub pages : ℕ

@@ -10,10 +10,12 @@
 
 mod entry;
 mod journal;
+mod messages;
 mod rule;
 mod view;
 
 pub use entry::{DomainAnswer, DomainStep, Entry, JournalKind, MessageAnswer, MessageStep};
 pub use journal::{Naming, Note};
+pub use messages::MessageState;
 pub use vd_model::{Body, Dir, Region, Sent, TakeAnswer};
 pub use vd_num::{Errno, Range};
