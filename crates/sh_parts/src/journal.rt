@@ -173,11 +173,14 @@ impl<N: Naming> Journal<N> {
         append_draft::<Brand>(&table.shared, &mut self.seat, entry);
     }
 
-    /// How many entries there are.
-    pub(crate) fn len(&self) -> u64
-        ensures { result ≡ length self.now.entries }
+    /// How many entries there are after the next one, for which there is room.
+    pub(crate) fn next_len(&self) -> u64
+        requires { 1 ≤ self.now.room }
+        ensures { result ≡ length self.now.entries + 1 }
     {
-        self.entries.len() as u64
+        // The capacity is a usize, so one more than the length is too.
+        let _ = self.entries.capacity();
+        self.entries.len() as u64 + 1
     }
 
     /// A note of the last entry, which has none yet.

@@ -8,12 +8,15 @@
 //! ties notes to their journal.
 #![tactic(auto)]
 
+mod domain;
 mod entry;
 mod journal;
+mod memory;
 mod messages;
 mod rule;
 mod view;
 
+pub use domain::DomainState;
 pub use entry::{DomainAnswer, DomainStep, Entry, JournalKind, MessageAnswer, MessageStep};
 pub use journal::{Naming, Note};
 pub use messages::MessageState;
