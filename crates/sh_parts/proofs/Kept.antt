@@ -108,8 +108,8 @@ finds n lo hi number (j ∷ ks) k a e = by (j.number == number) refl (finds n lo
       let is : j ≡ k = some_is j k (sym (ap (λ b. cond b (Some j) (find (has number) ks)) h) ∙ e) in
       let num : j.number ≡ number = is_same j.number number h in
       let whole : filter (lacks number) (j ∷ ks) ≡ ks =
-          ap (λ b. cond (not b) (j ∷ filter (lacks number) ks) (filter (lacks number) ks)) h
-          ∙ ap (λ m. filter (lacks m) ks) (sym num) ∙ filter_new j ks a.4 in
+      ap (λ b. cond (not b) (j ∷ filter (lacks number) ks) (filter (lacks number) ks)) h
+      ∙ ap (λ m. filter (lacks m) ks) (sym num) ∙ filter_new j ks a.4 in
       subst (Found n lo hi number (j ∷ ks)) is (record {
         number = num;
         some = a.1;

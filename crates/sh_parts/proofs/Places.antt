@@ -195,14 +195,14 @@ module _ (next one mid top : ℕ) (ks js : List Live) (low high : Space) (a : Is
   low_place =
       ap (λ lo. place_of (taken_of low) n lo low.«end») a.first ∙ ap (λ hi. place_of (taken_of low) n one hi) a.last
       ∙ place_same (taken_of low) all n one mid (λ s from to.
-          any_taken next one mid ks low (meets s n) a
-          ∙ or_false (list_any (λ k. meets s n (slots_of k)) ks) (list_any (λ k. meets s n (slots_of k)) js) (none_meets next mid top js s n b.apart (inl to))
-          ∙ sym (met s))
+      any_taken next one mid ks low (meets s n) a
+      ∙ or_false (list_any (λ k. meets s n (slots_of k)) ks) (list_any (λ k. meets s n (slots_of k)) js) (none_meets next mid top js s n b.apart (inl to))
+      ∙ sym (met s))
 
   pub high_place : place_of (taken_of high) n high.first high.«end» ≡ place_of all n mid top
   high_place =
       ap (λ lo. place_of (taken_of high) n lo high.«end») b.first ∙ ap (λ hi. place_of (taken_of high) n mid hi) b.last
       ∙ place_same (taken_of high) all n mid top (λ s from to.
-          any_taken next mid top js high (meets s n) b
-          ∙ false_or (list_any (λ k. meets s n (slots_of k)) ks) (list_any (λ k. meets s n (slots_of k)) js) (none_meets next one mid ks s n a.apart (inr from))
-          ∙ sym (met s))
+      any_taken next mid top js high (meets s n) b
+      ∙ false_or (list_any (λ k. meets s n (slots_of k)) ks) (list_any (λ k. meets s n (slots_of k)) js) (none_meets next one mid ks s n a.apart (inr from))
+      ∙ sym (met s))

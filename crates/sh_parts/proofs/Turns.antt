@@ -154,8 +154,8 @@ drop_ranges n lo hi number (j ∷ ks) k a e r = by (j.number == number) refl (λ
       let is : j ≡ k = some_is j k (sym (ap (λ b. cond b (Some j) (find (has number) ks)) h) ∙ e) in
       let num : j.number ≡ number = is_same j.number number h in
       let whole : filter (lacks number) (j ∷ ks) ≡ ks =
-          ap (λ b. cond (not b) (j ∷ filter (lacks number) ks) (filter (lacks number) ks)) h
-          ∙ ap (λ m. filter (lacks m) ks) (sym num) ∙ filter_new j ks a.4 in
+      ap (λ b. cond (not b) (j ∷ filter (lacks number) ks) (filter (lacks number) ks)) h
+      ∙ ap (λ m. filter (lacks m) ks) (sym num) ∙ filter_new j ks a.4 in
       let page : 4096 * j.page ≡ 4096 * k.page = ap (λ (l : Live). 4096 * l.page) is in (
         (λ i. let w = subst (λ l. IsIn r (map range_of l)) whole i in (inr w, λ at. new_range j ks r a.4 w (at ∙ sym page))),
         (λ i. subst (λ l. IsIn r (map range_of l)) (sym whole) (⊎_elim (λ (x : range_of j ≡ r). absurd (i.1 (start_is j r x ∙ page))) (λ (w : IsIn r (map range_of ks)). w) i.0)),

@@ -142,6 +142,12 @@ now_of [] = 0
 now_of (entry.Message message.Tick moment answer ∷ before) = moment
 now_of (_ ∷ before) = now_of before
 
+-- no tick had a later moment than this one
+abbrev pub NoneLater : ℕ → List Entry → Type 0
+NoneLater now [] = Unit {0}
+NoneLater now (entry.Message message.Tick moment answer ∷ before) = (moment ≤ now) × NoneLater now before
+NoneLater now (_ ∷ before) = NoneLater now before
+
 -- time doesn't go back at a tick, and stands still at every other step
 abbrev pub IsMoment : List Entry → MessageStep → ℕ → Type 0
 IsMoment before message.Tick moment = now_of before ≤ moment

@@ -6,13 +6,14 @@ ghost use Rattle.sh_parts.specs.declared.entry.JournalKind.TheVariants as kind;
 ghost use Rattle.sh_parts.specs.declared.entry.Entry.TheVariants as entry;
 ghost use Rattle.sh_parts.specs.Legal.{domain_acts, domain_turn, IsLegal};
 ghost use Rattle.sh_parts.specs.Steps.{IsFront};
-ghost use Rattle.sh_parts.specs.Journals.{StateView, NoteView};
+ghost use Rattle.sh_parts.specs.Journals.{StateView, NoteView, NewDomainView};
 
 use crate::entry::{DomainAnswer, DomainStep, Entry, JournalKind};
 use crate::journal::{Journal, Naming, NewJournal, Note};
 use crate::memory::Memory;
 use std::alloc::{AllocError, Global};
 use std::marker::{Brand, Model};
+use std::sync::{Mutex, RwLock};
 
 /// The memory of the device, whether the bounce memory is registered, and the journal of both. In
 /// contracts it is the journal's entries and how many of them were noted.
@@ -39,6 +40,77 @@ impl<N: Naming> Model for DomainState<N> {
         × (s.memory.next ≤ length s.journal.entries) };
 }
 
+/// The state of the memory under its lock. Registrations hold `switch` for writing, and maps and
+/// unmaps hold it for reading.
+pub struct SharedDomain<N: Naming> {
+    pub state: Mutex<DomainState<N>>,
+    pub switch: RwLock<()>,
+}
+
+/// The memory of a device that has no name yet, with an empty journal. In contracts it is its
+/// journal's table and its two numbers of pages.
+#[derive(Drop)]
+pub struct NewDomain {
+    journal: NewJournal,
+    memory: Memory,
+}
+
+impl Model for NewDomain {
+    ghost use Rattle.std.specs.Prelude.{◌≡◌, ℕ, []};
+    ghost use Rattle.sh_parts.specs.declared.entry.JournalKind.TheVariants.{Domain};
+    ghost use Rattle.sh_parts.specs.Memory.{IsSound, Stands};
+    ghost use Rattle.sh_parts.specs.Journals.{NewDomainView};
+
+    ghost Value = { NewDomainView };
+
+    ghost view = { λ d. record { table = d.journal.seat.table_id; bounce = d.memory.bounce_pages; pages = d.memory.coherent.«end» } };
+
+    ghost invariant = { λ d. (d.journal.kind ≡ Domain)
+        × IsSound d.memory
+        × ((t : ℕ) → Stands (record { bounce = d.memory.bounce_pages; pages = d.memory.coherent.«end»; timeout = t }) [] d.memory)
+        × (d.memory.next ≡ 0) };
+}
+
+impl SharedDomain<Brand> {
+    /// The memory of a device with so many bounce pages and pages in all, 4,096 bytes each. Nothing
+    /// is mapped. It gets its name by `named`.
+    pub fn new(alloc: Global, bounce_pages: u32, pages: u32) -> Result<NewDomain, AllocError>
+        requires { (2 ≤ bounce_pages) × (bounce_pages < pages) × (pages ≤ 4096) }
+        ensures { IfOk result (λ d. (d.bounce ≡ bounce_pages) × (d.pages ≡ pages)) }
+    {
+        Ok(NewDomain {
+            journal: NewJournal::new(alloc, JournalKind::Domain)?,
+            memory: Memory::new(alloc, bounce_pages, pages)?,
+        })
+    }
+}
+
+impl NewDomain {
+    /// The state with its name, whose table and numbers are its own.
+    pub fn into_state<N: Naming>(self) -> DomainState<N>
+        requires table { self.table ≡ N.domain }
+        requires numbers { (self.bounce ≡ N.numbers.bounce) × (self.pages ≡ N.numbers.pages) }
+        ensures { (result.entries ≡ []) × (result.noted ≡ 0) }
+    {
+        let NewDomain { journal, memory } = self;
+        DomainState {
+            journal: journal.named(),
+            memory,
+        }
+    }
+
+    /// The state with its name, under its lock.
+    pub fn named<N: Naming>(self) -> SharedDomain<N>
+        requires table { self.table ≡ N.domain }
+        requires numbers { (self.bounce ≡ N.numbers.bounce) × (self.pages ≡ N.numbers.pages) }
+    {
+        SharedDomain {
+            state: Mutex::new(self.into_state()),
+            switch: RwLock::new(()),
+        }
+    }
+}
+
 impl<N: Naming> DomainState<N> {
     /// Does a step and appends it with its answer. For want of memory nothing is done.
     pub fn apply(&mut self, step: DomainStep) -> Result<DomainAnswer, AllocError>
@@ -52,6 +124,13 @@ impl<N: Naming> DomainState<N> {
         let answer = self.memory.answer_to(step)?;
         self.journal.append(Entry::Domain { step, answer });
         Ok(answer)
+    }
+
+    /// What holds whenever the lock is free: the journal is legal.
+    pub fn legal(&self)
+        ensures { IsLegal N.numbers kind.Domain self.now.entries }
+    {
+        self.journal.legal();
     }
 
     /// Whether a live mapping has this bounce page.

@@ -26,10 +26,7 @@ pub enum DomainStep {
 #[derive(Clone, Copy, Debug, PartialEq, Eq)]
 pub enum DomainAnswer {
     /// The number of the mapping or region, and the I/O virtual address of its first byte.
-    Mapped {
-        number: u64,
-        iova: u64,
-    },
+    Mapped { number: u64, iova: u64 },
     Done,
     Found(Region),
     Err(Errno),

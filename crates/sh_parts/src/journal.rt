@@ -154,6 +154,13 @@ fn append_draft<D: Draft>(
 }
 
 impl<N: Naming> Journal<N> {
+    /// What holds of every journal.
+    pub(crate) fn legal(&self)
+        ensures { IsLegal N.numbers self.now.kind self.now.entries }
+    {
+        let _ = &self.kind;
+    }
+
     /// Makes room for one entry more.
     pub(crate) fn reserve(&mut self) -> Result<(), AllocError>
         ensures room { OnOk result (1 ≤ self.new.room) }

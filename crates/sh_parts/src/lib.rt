@@ -16,9 +16,12 @@ mod messages;
 mod rule;
 mod view;
 
-pub use domain::DomainState;
+pub use domain::{DomainState, NewDomain, SharedDomain};
 pub use entry::{DomainAnswer, DomainStep, Entry, JournalKind, MessageAnswer, MessageStep};
 pub use journal::{Naming, Note};
-pub use messages::MessageState;
+pub use messages::{MessageState, NewMessages, SharedMessages};
 pub use vd_model::{Body, Dir, Region, Sent, TakeAnswer};
 pub use vd_num::{Errno, Range};
+
+#[cfg(test)]
+mod tests;

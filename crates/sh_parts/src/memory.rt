@@ -80,11 +80,7 @@ fn covers(list: &Vec<Live>, page: u64) -> bool
 
 impl Memory {
     /// Nothing is mapped, and nothing registered.
-    pub(crate) fn new(
-        alloc: Global,
-        bounce_pages: u32,
-        pages: u32,
-    ) -> Result<Memory, AllocError>
+    pub(crate) fn new(alloc: Global, bounce_pages: u32, pages: u32) -> Result<Memory, AllocError>
         requires { (2 ≤ bounce_pages) × (bounce_pages < pages) × (pages ≤ 4096) }
         ensures sound { IfOk result IsSound }
         ensures stands { IfOk result (λ m. (t : ℕ) → Stands (record { bounce = bounce_pages; pages = pages; timeout = t }) [] m) }

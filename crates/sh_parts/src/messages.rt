@@ -5,9 +5,9 @@ ghost use Rattle.vd_model.specs.Messages.{MessageAct, Start};
 ghost use Rattle.vd_msg.specs.Stands.{Stands, Makes};
 ghost use Rattle.sh_parts.specs.declared.entry.JournalKind.TheVariants as kind;
 ghost use Rattle.sh_parts.specs.declared.entry.Entry.TheVariants as entry;
-ghost use Rattle.sh_parts.specs.Legal.{call_of, message_acts, message_answer, now_of, start_of, IsMoment, IsLegal};
+ghost use Rattle.sh_parts.specs.Legal.{call_of, message_acts, message_answer, now_of, start_of, NoneLater, IsMoment, IsLegal};
 ghost use Rattle.sh_parts.specs.Steps.{IsFront};
-ghost use Rattle.sh_parts.specs.Journals.{StateView, NoteView};
+ghost use Rattle.sh_parts.specs.Journals.{StateView, NoteView, NewMessagesView};
 
 use crate::entry::{Entry, JournalKind, MessageAnswer, MessageStep};
 use crate::journal::{Journal, Naming, NewJournal, Note};
@@ -42,6 +42,79 @@ impl<N: Naming> Model for MessageState<N> {
         × (s.time ≡ now_of (reverse s.journal.entries)) };
 }
 
+/// The state of the messages under its lock, and what a thread that waits for one sleeps on.
+pub struct SharedMessages<N: Naming> {
+    pub state: Mutex<MessageState<N>>,
+    pub woken: Condvar,
+}
+
+/// The messages of a device that has no name yet, with an empty journal. In contracts they are their
+/// journal's table and their timeout.
+#[derive(Drop)]
+pub struct NewMessages {
+    journal: NewJournal,
+    messages: Messages,
+    timeout: u32,
+}
+
+impl Model for NewMessages {
+    ghost use Rattle.std.specs.Prelude.{◌≡◌, []};
+    ghost use Rattle.vd_msg.specs.Stands.{Stands};
+    ghost use Rattle.sh_parts.specs.declared.entry.JournalKind.TheVariants.{Messages};
+    ghost use Rattle.sh_parts.specs.Journals.{NewMessagesView};
+
+    ghost Value = { NewMessagesView };
+
+    ghost view = { λ m. record { table = m.journal.seat.table_id; timeout = m.timeout } };
+
+    ghost invariant = { λ m. (m.journal.kind ≡ Messages) × Stands (record { timeout = m.timeout; first = 0 }) [] m.messages };
+}
+
+impl SharedMessages<Brand> {
+    /// No messages. Each that is sent has this timeout, in seconds and 0 for none, and the first one
+    /// has the id 0. They get their name by `named`.
+    pub fn new(alloc: Global, timeout: u32) -> Result<NewMessages, AllocError>
+        ensures { IfOk result (λ m. m.timeout ≡ timeout) }
+    {
+        Ok(NewMessages {
+            journal: NewJournal::new(alloc, JournalKind::Messages)?,
+            messages: Messages::new(alloc, timeout, 0),
+            timeout,
+        })
+    }
+}
+
+impl NewMessages {
+    /// The state with its name, whose table and timeout are its own.
+    pub fn into_state<N: Naming>(self) -> MessageState<N>
+        requires table { self.table ≡ N.messages }
+        requires numbers { self.timeout ≡ N.numbers.timeout }
+        ensures { (result.entries ≡ []) × (result.noted ≡ 0) }
+    {
+        let NewMessages {
+            journal,
+            messages,
+            timeout: _,
+        } = self;
+        MessageState {
+            journal: journal.named(),
+            messages,
+            time: 0,
+        }
+    }
+
+    /// The state with its name, under its lock.
+    pub fn named<N: Naming>(self) -> SharedMessages<N>
+        requires table { self.table ≡ N.messages }
+        requires numbers { self.timeout ≡ N.numbers.timeout }
+    {
+        SharedMessages {
+            state: Mutex::new(self.into_state()),
+            woken: Condvar::new(),
+        }
+    }
+}
+
 impl<N: Naming> MessageState<N> {
     /// Does a step at a moment, in seconds, and appends it with its answer. For want of memory
     /// nothing is done.
@@ -66,10 +139,19 @@ impl<N: Naming> MessageState<N> {
         Ok(answer)
     }
 
-    /// The moment of the last tick, in seconds, and 0 before the first: no tick had a greater one.
-    pub fn now(&self) -> u64
-        ensures { result ≡ now_of (reverse self.now.entries) }
+    /// What holds whenever the lock is free: the journal is legal.
+    pub fn legal(&self)
+        ensures { IsLegal N.numbers kind.Messages self.now.entries }
     {
+        self.journal.legal();
+    }
+
+    /// The moment of the last tick, in seconds, which is the greatest, and 0 before the first.
+    pub fn now(&self) -> u64
+        ensures last { result ≡ now_of (reverse self.now.entries) }
+        ensures greatest { NoneLater result (reverse self.now.entries) }
+    {
+        self.journal.legal();
         self.time
     }
 

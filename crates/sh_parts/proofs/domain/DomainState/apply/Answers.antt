@@ -30,7 +30,7 @@ invariant_of-self-2 g c =
     let e : Entry = entry.Domain c.args.step c.in_ok-answer.answer in
     let old : List Entry = c.self.inside.journal.entries in
     let more : c.append.new.self.entries ≡ old ++ e ∷ [] =
-        ap (λ (j : JournalView). j.entries) c.append.ensures ∙ ap (λ (j : JournalView). j.entries ++ e ∷ []) c.reserve.ensures.same in
+    ap (λ (j : JournalView). j.entries) c.append.ensures ∙ ap (λ (j : JournalView). j.entries ++ e ∷ []) c.reserve.ensures.same in
     let stands = (c.in_ok-answer.ensures.makes x _ i.2).1 in
     let next = c.answer_to.ensures.next in
     let few = i.3 in

@@ -19,13 +19,13 @@ in_order start last le = grind (arith, nat_tests)
 pub returns-in-Some : goal.returns-in-Some
 returns-in-Some c = λ x done s.
     let other : (c.args.self.now.mapped ≡ false) ⊎ (4096 * c.args.self.now.bounce_pages ≤ c.args.range.start) =
-        elim c.else-self.branch [ else-self-via-then-self+else-range-self w ↦ inr w.if-range-self.false | else-self-via-else-self w ↦ inl w.if-self.false ] in
+    elim c.else-self.branch [ else-self-via-then-self+else-range-self w ↦ inr w.if-range-self.false | else-self-via-else-self w ↦ inl w.if-self.false ] in
     let first = lookup_first x done c.args.self.now c.requires.sound s c.args.range.start c.args.range.last other in
     ap answer (λ i. (sym (in_order c.args.range.start c.args.range.last c.if-range.false) i, (sym c.in-Some.is ∙ c.first.ensures ∙ first) i))
 
 pub returns-in-None : goal.returns-in-None
 returns-in-None c = λ x done s.
     let other : (c.args.self.now.mapped ≡ false) ⊎ (4096 * c.args.self.now.bounce_pages ≤ c.args.range.start) =
-        elim c.else-self.branch [ else-self-via-then-self+else-range-self w ↦ inr w.if-range-self.false | else-self-via-else-self w ↦ inl w.if-self.false ] in
+    elim c.else-self.branch [ else-self-via-then-self+else-range-self w ↦ inr w.if-range-self.false | else-self-via-else-self w ↦ inl w.if-self.false ] in
     let first = lookup_first x done c.args.self.now c.requires.sound s c.args.range.start c.args.range.last other in
     ap answer (λ i. (sym (in_order c.args.range.start c.args.range.last c.if-range.false) i, (sym c.in-None.is ∙ c.first.ensures ∙ first) i))

@@ -65,7 +65,7 @@ returns-in_default-clause-makes c = λ x done s.
       registered = c.args.self.now.registered;
     } in
     let place : None ≡ place_of (taken done) (pages_of c.args.len) x.bounce x.pages =
-        c.in_default.ensures.place ∙ coherent_place x done c.args.self.now c.requires.sound s c.pages-count.result ∙ ap (λ n. place_of (taken done) n x.bounce x.pages) c.pages-count.ensures.value in
+    c.in_default.ensures.place ∙ coherent_place x done c.args.self.now c.requires.sound s c.pages-count.result ∙ ap (λ n. place_of (taken done) n x.bounce x.pages) c.pages-count.ensures.value in
     let zero : (c.args.len == 0) ≡ false = differs c.args.len 0 c.if-len-eq0.false in
     let same : Stands x done m = record {
       bounce = s.bounce;
@@ -137,7 +137,7 @@ returns-clause-makes c = λ x done s.
       registered = c.args.self.now.registered;
     } in
     let place : Some c.in-Ok.page ≡ place_of (taken done) (pages_of c.args.len) x.bounce x.pages =
-        c.in-Ok.ensures.place ∙ coherent_place x done c.args.self.now c.requires.sound s c.pages-count.result ∙ ap (λ n. place_of (taken done) n x.bounce x.pages) c.pages-count.ensures.value in
+    c.in-Ok.ensures.place ∙ coherent_place x done c.args.self.now c.requires.sound s c.pages-count.result ∙ ap (λ n. place_of (taken done) n x.bounce x.pages) c.pages-count.ensures.value in
     let zero : (c.args.len == 0) ≡ false = differs c.args.len 0 c.if-len-eq0.false in
     let next = s.next in
     let later : c.args.self.now.next + 1 ≡ maps done + (regions done + 1) = omega arith in

@@ -36,7 +36,7 @@ returns-in_default-clause-makes c = λ x done dir s.
       registered = c.args.self.now.registered;
     } in
     let place : None ≡ place_of (taken done) (pages_of c.args.len) 1 x.bounce =
-        c.in_default.ensures.place ∙ bounce_place x done c.args.self.now c.requires.sound s c.pages-count.result ∙ ap (λ n. place_of (taken done) n 1 x.bounce) c.pages-count.ensures.value in
+    c.in_default.ensures.place ∙ bounce_place x done c.args.self.now c.requires.sound s c.pages-count.result ∙ ap (λ n. place_of (taken done) n 1 x.bounce) c.pages-count.ensures.value in
     let zero : (c.args.len == 0) ≡ false = differs c.args.len 0 c.if-len-eq0.false in
     let same : Stands x done m = record {
       bounce = s.bounce;
@@ -89,7 +89,7 @@ returns-clause-makes c = λ x done dir s.
       registered = c.args.self.now.registered;
     } in
     let place : Some c.in-Ok.page ≡ place_of (taken done) (pages_of c.args.len) 1 x.bounce =
-        c.in-Ok.ensures.place ∙ bounce_place x done c.args.self.now c.requires.sound s c.pages-count.result ∙ ap (λ n. place_of (taken done) n 1 x.bounce) c.pages-count.ensures.value in
+    c.in-Ok.ensures.place ∙ bounce_place x done c.args.self.now c.requires.sound s c.pages-count.result ∙ ap (λ n. place_of (taken done) n 1 x.bounce) c.pages-count.ensures.value in
     let zero : (c.args.len == 0) ≡ false = differs c.args.len 0 c.if-len-eq0.false in
     let next = s.next in
     let later : c.args.self.now.next + 1 ≡ maps done + 1 + regions done = omega arith in
