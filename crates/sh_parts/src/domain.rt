@@ -42,6 +42,7 @@ impl<N: Naming> Model for DomainState<N> {
 
 /// The state of the memory under its lock. Registrations hold `switch` for writing, and maps and
 /// unmaps hold it for reading.
+#[derive(Drop)]
 pub struct SharedDomain<N: Naming> {
     pub state: Mutex<DomainState<N>>,
     pub switch: RwLock<()>,
@@ -116,6 +117,7 @@ impl<N: Naming> DomainState<N> {
     pub fn apply(&mut self, step: DomainStep) -> Result<DomainAnswer, AllocError>
         ensures answer { IfOk result (λ answer. answer ≡ (domain_turn N.numbers (domain_acts N.numbers (reverse self.old.entries)) step).answer) }
         ensures entry { IfOk result (λ answer. self.new ≡ record self.old { entries = self.old.entries ++ entry.Domain step answer ∷ [] }) }
+        ensures unnoted { IfOk result (λ _. self.new.noted < length self.new.entries) }
         ensures err { OnErr result (self.new ≡ self.old) }
     {
         self.journal.reserve()?;

@@ -173,7 +173,8 @@ impl<N: Naming> Journal<N> {
     pub(crate) fn append(&mut self, entry: Entry)
         requires room { 1 ≤ self.old.room }
         requires right { IsRight N.numbers self.old.kind (reverse self.old.entries) entry }
-        ensures { self.new ≡ record self.old { entries = self.old.entries ++ entry ∷ []; room = self.old.room - 1 } }
+        ensures entry { self.new ≡ record self.old { entries = self.old.entries ++ entry ∷ []; room = self.old.room - 1 } }
+        ensures unnoted { self.new.noted < length self.new.entries }
     {
         self.entries.push_reserved(entry);
         let table = &self.table;

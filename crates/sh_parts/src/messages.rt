@@ -43,6 +43,7 @@ impl<N: Naming> Model for MessageState<N> {
 }
 
 /// The state of the messages under its lock, and what a thread that waits for one sleeps on.
+#[derive(Drop)]
 pub struct SharedMessages<N: Naming> {
     pub state: Mutex<MessageState<N>>,
     pub woken: Condvar,
@@ -124,6 +125,7 @@ impl<N: Naming> MessageState<N> {
 
         ensures answer { IfOk result (λ answer. answer ≡ message_answer (start_of N.numbers) (message_acts N.numbers (reverse self.old.entries)) step) }
         ensures entry { IfOk result (λ answer. self.new ≡ record self.old { entries = self.old.entries ++ entry.Message step now answer ∷ [] }) }
+        ensures unnoted { IfOk result (λ _. self.new.noted < length self.new.entries) }
         ensures err { OnErr result (self.new ≡ self.old) }
     {
         self.journal.reserve()?;

@@ -141,7 +141,7 @@ fn map_twice<N: Naming + Send + Sync, R: Threads + Wait + Abort + Sync>(
     let mut guard = state.lock(rt);
     guard.meet(&mut first, second);
     guard.holds(first);
-    assert!(rt; a != b && a + b == 1);
+    assert!(rt; a.min(b) == 0 && a.max(b) == 1);
     Ok(())
 }
 

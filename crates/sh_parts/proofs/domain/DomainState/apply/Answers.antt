@@ -30,13 +30,13 @@ invariant_of-self-2 g c =
     let e : Entry = entry.Domain c.args.step c.in_ok-answer.answer in
     let old : List Entry = c.self.inside.journal.entries in
     let more : c.append.new.self.entries ≡ old ++ e ∷ [] =
-    ap (λ (j : JournalView). j.entries) c.append.ensures ∙ ap (λ (j : JournalView). j.entries ++ e ∷ []) c.reserve.ensures.same in
+    ap (λ (j : JournalView). j.entries) c.append.ensures.entry ∙ ap (λ (j : JournalView). j.entries ++ e ∷ []) c.reserve.ensures.same in
     let stands = (c.in_ok-answer.ensures.makes x _ i.2).1 in
     let next = c.answer_to.ensures.next in
     let few = i.3 in
     let size = ap (λ (l : List Entry). length l) more in
     let long = length-append old (e ∷ []) in (
-      ap (λ (j : JournalView). j.kind) c.append.ensures ∙ ap (λ (j : JournalView). j.kind) c.reserve.ensures.same ∙ i.0,
+      ap (λ (j : JournalView). j.kind) c.append.ensures.entry ∙ ap (λ (j : JournalView). j.kind) c.reserve.ensures.same ∙ i.0,
       c.answer_to.ensures.sound,
       subst (λ (l : List Entry). Stands x (domain_acts x l) c.answer_to.new.self) (sym (ap (λ (l : List Entry). reverse l) more ∙ newest old e)) stands,
       omega (arith, next, few, size, long),
