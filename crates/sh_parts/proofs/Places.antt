@@ -1,13 +1,13 @@
 -- The place that an address space gives is the one among all that is live.
-use Rattle.std.proofs.Common.{◌≡◌, ◌≢◌, ℕ, zero, suc, ◌+◌, ◌*◌, ◌%◌, ◌<◌, ◌≤◌, ◌⊎◌, ⊎_elim, inl, inr, refl, subst, ap, sym, ◌∙◌, arith, Bool, true, false, cond, ◌==◌, ◌&&◌, ◌||◌, not, nat_le, nat_lt, if◌then◌else◌, List, [], ◌∷◌, ◌++◌, Option, Some, None, map, filter, find, true≢false}
-use Rattle.std.proofs.lemmas.Bool.Decides.{nat_tests, eqb_tells, leb_tells}
+use Rattle.std.proofs.Common.{◌≡◌, ◌≢◌, ℕ, zero, suc, ◌+◌, ◌%◌, ◌<◌, ◌≤◌, ◌⊎◌, ⊎_elim, inl, inr, refl, subst, ap, sym, ◌∙◌, arith, Bool, true, false, cond, ◌==◌, ◌&&◌, ◌||◌, not, nat_le, if◌then◌else◌, List, [], ◌∷◌, ◌++◌, Some, map, filter, find, true≢false}
+use Rattle.std.proofs.lemmas.Bool.Decides.{nat_tests, leb_tells}
 use Rattle.std.specs.List.{list_any}
 use Rattle.std.specs.Option.{option_map}
 use Rattle.std.proofs.lemmas.List.Folds.{list_any-append}
 use Rattle.vd_num.specs.Number.{power_from}
 use Rattle.vd_model.specs.Place.{Slots, greatest, meets, is_place, place_of}
 use Rattle.vd_iova.specs.Space.{Space, ranges_from, taken_of, taken_at}
-use Rattle.vd_iova.proofs.Places.{Passes, any_at, any_found}
+use Rattle.vd_iova.proofs.Places.{any_at, any_found}
 use Rattle.sh_parts.specs.declared.memory.Live.{Live}
 use Rattle.sh_parts.specs.Memory.{slots_of, IsNew, AreApart, count_at, IsKept}
 

@@ -1,6 +1,6 @@
 -- The region of least start is the same of two lists with the same regions.
-use Rattle.std.proofs.Common.{◌≡◌, ◌≢◌, ℕ, ◌+◌, ◌-◌, ◌*◌, ◌<◌, ◌≤◌, ◌⊎◌, ⊎_elim, inl, inr, refl, subst, ap, sym, ◌∙◌, arith, Bool, true, false, cond, ◌==◌, not, nat_le, nat_lt, if◌then◌else◌, List, [], ◌∷◌, ◌++◌, Option, Some, None, map, filter, find, true≢false}
-use Rattle.std.proofs.lemmas.Bool.Decides.{nat_tests, eqb_tells, leb_tells}
+use Rattle.std.proofs.Common.{◌≡◌, ◌≢◌, ℕ, ◌*◌, ◌<◌, ◌≤◌, ◌⊎◌, ⊎_elim, inl, inr, refl, subst, ap, sym, ◌∙◌, arith, Bool, true, false, cond, nat_le, nat_lt, if◌then◌else◌, List, [], ◌∷◌, ◌++◌, Option, Some, None, map, filter, true≢false}
+use Rattle.std.proofs.lemmas.Bool.Decides.{nat_tests}
 use Rattle.vd_model.specs.declared.memory.Region.{Region}
 use Rattle.vd_model.specs.AreaTurns.{overlaps, lower, lowest, first_region}
 use Rattle.vd_regions.specs.Ordered.{placed}

@@ -19,7 +19,7 @@ use Rattle.sh_parts.specs.declared.entry.DomainStep.TheVariants as asks
 use Rattle.vd_num.specs.declared.number.Range.{Range}
 use Rattle.vd_num.specs.declared.errno.Errno.TheVariants.{Inval}
 use Rattle.sh_parts.specs.Memory.{kept_mapping, kept_region, slots_of, range_of, AreApart, count_at, IsKept, IsIn, HaveSame, IsSound, Stands}
-use Rattle.sh_parts.proofs.Kept.{has, lacks, is_same, isnt_same, some_is, apart_later, apart_push, count_push, filter_new, finds}
+use Rattle.sh_parts.proofs.Kept.{has, lacks, is_same, some_is, apart_later, apart_push, count_push, filter_new, finds}
 use Rattle.sh_parts.proofs.Places.{find_map_is, filter_map_is, map_twice, low_place, high_place}
 use Rattle.sh_parts.proofs.Regions.{in_push, in_placed, in_filter, start_is, new_range, first_same, ranges_apart}
 

@@ -1,15 +1,13 @@
 -- What each answer in the two journals has to be. Lists of entries have the newest first here.
-use Rattle.std.specs.Prelude.{ℕ, ◌≡◌, ◌≤◌, ◌+◌, ◌*◌, List, [], ◌∷◌, ◌++◌, ◌==◌, nat_lt, if◌then◌else◌, Option, is_some, find, reverse}
+use Rattle.std.specs.Prelude.{ℕ, ◌≡◌, ◌≤◌, ◌+◌, ◌*◌, List, [], ◌∷◌, ◌++◌, ◌==◌, nat_lt, if◌then◌else◌, is_some, find, reverse}
 use Rattle.std.specs.Option.{option_map, option_map_or}
 use Rattle.vd_num.specs.Number.{pages_of}
 use Rattle.vd_num.specs.declared.errno.Errno.{Errno}
 use Rattle.vd_num.specs.declared.errno.Errno.TheVariants as errno
-use Rattle.vd_num.specs.declared.number.Range.{Range}
-use Rattle.vd_model.specs.declared.message.Message.{Message}
 use Rattle.vd_model.specs.declared.memory.Region.{Region}
 use Rattle.vd_model.specs.declared.memory.Dir.{Dir}
 use Rattle.vd_model.specs.Setting.{Setting, bounce_size}
-use Rattle.vd_model.specs.Acts.{Act, Streaming, Coherent, Node, Driver, Registered, Deregistered, Mapped, Unmapped, Region_made, Region_freed}
+use Rattle.vd_model.specs.Acts.{Act, Node, Driver, Registered, Deregistered, Mapped, Unmapped, Region_made, Region_freed}
 use Rattle.vd_model.specs.Live.{maps, regions, live, live_regions, registered}
 use Rattle.vd_model.specs.Place.{place_of, taken}
 use Rattle.vd_model.specs.DriverTurns.{want_of}

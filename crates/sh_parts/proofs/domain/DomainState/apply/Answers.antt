@@ -1,7 +1,6 @@
-use Rattle.std.proofs.Common.{◌≡◌, ℕ, List, [], ◌∷◌, ◌++◌, ◌+◌, ◌≤◌, length, reverse, length-append, arith, sym, ap, ◌∙◌, subst}
+use Rattle.std.proofs.Common.{◌≡◌, List, [], ◌∷◌, ◌++◌, length, reverse, length-append, arith, sym, ap, ◌∙◌, subst}
 use Rattle.sh_parts.specs.declared.entry.Entry.{Entry}
 use Rattle.sh_parts.specs.declared.entry.Entry.TheVariants as entry
-use Rattle.sh_parts.specs.declared.memory.Memory.{Memory}
 use Rattle.sh_parts.specs.Legal.{domain_acts}
 use Rattle.sh_parts.specs.Memory.{Stands}
 use Rattle.sh_parts.specs.Journals.{JournalView}

@@ -1,4 +1,4 @@
-use Rattle.std.proofs.Common.{◌≡◌, ℕ, List, ◌≤◌, length, reverse, arith, sym, ap, ◌∙◌, subst}
+use Rattle.std.proofs.Common.{List, reverse, arith, sym, ap, ◌∙◌, subst}
 use Rattle.sh_parts.specs.declared.entry.Entry.{Entry}
 use Rattle.sh_parts.specs.Legal.{domain_acts}
 use Rattle.sh_parts.specs.Memory.{Stands}

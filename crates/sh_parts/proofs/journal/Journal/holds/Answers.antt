@@ -1,4 +1,4 @@
-use Rattle.std.proofs.Common.{ℕ, arith, sym, ap, ◌∙◌}
+use Rattle.std.proofs.Common.{arith, sym, ap, ◌∙◌}
 use Rattle.sh_parts.specs.Steps.{Saw}
 use Rattle.sh_parts.specs.Journals.{JournalView, NoteView, table_of}
 use Rattle.sh_parts.proofs.Allowed.{meet_allowed, look_allowed}

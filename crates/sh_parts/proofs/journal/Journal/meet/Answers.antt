@@ -1,4 +1,4 @@
-use Rattle.std.proofs.Common.{ℕ, arith, sym, ap, ◌∙◌}
+use Rattle.std.proofs.Common.{arith, sym, ap, ◌∙◌}
 use Rattle.atomic_table.specs.Seated.{TableId}
 use Rattle.sh_parts.specs.declared.entry.JournalKind.{JournalKind}
 use Rattle.sh_parts.specs.Steps.{Saw}

@@ -1,4 +1,4 @@
-use Rattle.std.proofs.Common.{◌<◌, ℕ, List, length, arith, sym, ap, subst}
+use Rattle.std.proofs.Common.{◌<◌, length, arith, sym, ap, subst}
 use Rattle.sh_parts.specs.Journals.{JournalView}
 use Rattle.sh_parts.specs.Steps.{Saw}
 use Rattle.sh_parts.proofs.Allowed.{note_allowed}

@@ -1,5 +1,4 @@
-use Rattle.std.proofs.Common.{List, ◌++◌, sym, ap, subst}
-use Rattle.vd_model.specs.Acts.{Act}
+use Rattle.std.proofs.Common.{◌++◌, sym, ap, subst}
 use Rattle.sh_parts.specs.declared.entry.DomainStep.TheVariants as asks
 use Rattle.sh_parts.specs.Legal.{domain_turn}
 use Rattle.sh_parts.specs.Memory.{Stands}

@@ -1,13 +1,13 @@
-use Rattle.std.proofs.Common.{◌≡◌, ℕ, List, ◌∷◌, ◌++◌, Option, ◌<◌, ◌≤◌, subst, arith, refl, sym, ap, ◌∙◌, not, ◌==◌, find}
+use Rattle.std.proofs.Common.{◌≡◌, ℕ, List, ◌∷◌, Option, ◌<◌, ◌≤◌, subst, arith, refl, sym, ap, ◌∙◌, ◌==◌, find}
 use Rattle.std.specs.Option.{option_map_or}
 use Rattle.vd_num.specs.declared.errno.Errno.TheVariants.{Noent}
 use Rattle.vd_iova.specs.Space.{Space}
-use Rattle.vd_model.specs.Acts.{Act, Coherent, Driver, Region_freed}
+use Rattle.vd_model.specs.Acts.{Coherent, Driver, Region_freed}
 use Rattle.vd_model.specs.Live.{live_regions}
 use Rattle.sh_parts.specs.declared.entry.DomainAnswer.TheVariants.{Done, Err}
 use Rattle.sh_parts.specs.declared.memory.Live.{Live}
 use Rattle.sh_parts.specs.declared.memory.Memory.{Memory}
-use Rattle.sh_parts.specs.Legal.{Numbers, DomainTurn, done_by, refused}
+use Rattle.sh_parts.specs.Legal.{DomainTurn, done_by, refused}
 use Rattle.sh_parts.specs.Memory.{Stands, IsKept, kept_region}
 use Rattle.sh_parts.proofs.Kept.{finds}
 use Rattle.sh_parts.proofs.Turns.{same_drop, kept_drop, found_taken, none_among, some_among, lacking, by_turn}

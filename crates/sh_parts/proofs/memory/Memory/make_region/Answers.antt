@@ -1,5 +1,4 @@
-use Rattle.std.proofs.Common.{◌≡◌, ℕ, Bool, true, false, List, [], ◌∷◌, ◌++◌, Option, Some, None, ◌<◌, ◌≤◌, ◌+◌, ◌*◌, ◌==◌, if◌then◌else◌, map, arith, refl, sym, ap, ◌∙◌, subst}
-use Rattle.std.proofs.lemmas.Bool.Decides.{nat_tests}
+use Rattle.std.proofs.Common.{◌≡◌, ℕ, Bool, false, List, [], ◌∷◌, ◌++◌, Option, Some, None, ◌<◌, ◌≤◌, ◌+◌, ◌*◌, ◌==◌, if◌then◌else◌, map, arith, refl, sym, ap, ◌∙◌, subst}
 use Rattle.std.specs.Option.{option_map_or}
 use Rattle.vd_num.specs.Number.{pages_of}
 use Rattle.vd_num.specs.declared.errno.Errno.TheVariants.{Inval, Nospc}
@@ -12,8 +11,8 @@ use Rattle.sh_parts.specs.declared.entry.DomainAnswer.TheVariants.{Mapped, Err}
 use Rattle.vd_model.specs.declared.memory.Region.{Region}
 use Rattle.sh_parts.specs.declared.memory.Live.{Live}
 use Rattle.sh_parts.specs.declared.memory.Memory.{Memory}
-use Rattle.sh_parts.specs.Legal.{Numbers, DomainTurn, region_at, next_number, refused}
-use Rattle.sh_parts.specs.Memory.{range_of, IsKept, HaveSame, IsSound, Stands, kept_region}
+use Rattle.sh_parts.specs.Legal.{DomainTurn, region_at, next_number, refused}
+use Rattle.sh_parts.specs.Memory.{range_of, IsKept, HaveSame, Stands, kept_region}
 use Rattle.sh_parts.proofs.Kept.{differs}
 use Rattle.sh_parts.proofs.Turns.{kept_later, kept_push, coherent_place, adding, by_turn, kept_back, same_push, told_ok, told_err}
 use Rattle.sh_parts.proofs.memory.Memory.make_region.Goals as goal

@@ -1,5 +1,4 @@
-use Rattle.std.proofs.Common.{◌≡◌, ℕ, Bool, true, false, List, [], ◌∷◌, ◌++◌, Option, Some, None, ◌<◌, ◌≤◌, ◌+◌, ◌*◌, ◌==◌, if◌then◌else◌, arith, refl, sym, ap, ◌∙◌, subst}
-use Rattle.std.proofs.lemmas.Bool.Decides.{nat_tests}
+use Rattle.std.proofs.Common.{◌≡◌, ℕ, Bool, true, false, List, [], ◌∷◌, ◌++◌, Option, Some, None, ◌<◌, ◌≤◌, ◌+◌, ◌*◌, ◌==◌, if◌then◌else◌, arith, refl, sym, ap, ◌∙◌}
 use Rattle.std.specs.Option.{option_map_or}
 use Rattle.vd_num.specs.Number.{pages_of}
 use Rattle.vd_num.specs.declared.errno.Errno.TheVariants.{Inval, Nospc}
@@ -12,7 +11,7 @@ use Rattle.vd_model.specs.DriverTurns.{want_of}
 use Rattle.sh_parts.specs.declared.entry.DomainAnswer.TheVariants.{Mapped, Err}
 use Rattle.sh_parts.specs.declared.memory.Live.{Live}
 use Rattle.sh_parts.specs.declared.memory.Memory.{Memory}
-use Rattle.sh_parts.specs.Legal.{Numbers, DomainTurn, mapping_at, next_number, refused}
+use Rattle.sh_parts.specs.Legal.{DomainTurn, mapping_at, next_number, refused}
 use Rattle.sh_parts.specs.Memory.{Stands, kept_mapping}
 use Rattle.sh_parts.proofs.Kept.{differs}
 use Rattle.sh_parts.proofs.Turns.{kept_later, kept_push, bounce_place, adding, by_turn}

@@ -1,12 +1,12 @@
-use Rattle.std.proofs.Common.{◌≡◌, ℕ, List, ◌∷◌, ◌++◌, Option, ◌<◌, arith, refl, sym, ap, ◌∙◌, not, ◌==◌, find}
+use Rattle.std.proofs.Common.{◌∷◌, Option, refl, sym, ap, ◌∙◌, ◌==◌, find}
 use Rattle.std.specs.Option.{option_map_or}
 use Rattle.vd_num.specs.declared.errno.Errno.TheVariants.{Noent}
 use Rattle.vd_iova.specs.Space.{Space}
-use Rattle.vd_model.specs.Acts.{Act, Streaming, Driver, Unmapped}
+use Rattle.vd_model.specs.Acts.{Streaming, Driver, Unmapped}
 use Rattle.vd_model.specs.Live.{live}
 use Rattle.sh_parts.specs.declared.entry.DomainAnswer.TheVariants.{Done, Err}
 use Rattle.sh_parts.specs.declared.memory.Memory.{Memory}
-use Rattle.sh_parts.specs.Legal.{Numbers, DomainTurn, done_by, refused}
+use Rattle.sh_parts.specs.Legal.{DomainTurn, done_by, refused}
 use Rattle.sh_parts.specs.Memory.{Stands, kept_mapping}
 use Rattle.sh_parts.proofs.Turns.{kept_drop, found_taken, none_among, some_among, lacking, by_turn}
 use Rattle.sh_parts.proofs.memory.Memory.unmap.Goals as goal

@@ -1,6 +1,5 @@
-use Rattle.std.proofs.Common.{ℕ, sym, subst, reverse}
+use Rattle.std.proofs.Common.{sym, subst, reverse}
 use Rattle.sh_parts.specs.declared.entry.JournalKind.{JournalKind}
-use Rattle.sh_parts.specs.declared.entry.JournalKind.TheVariants as kind
 use Rattle.sh_parts.specs.Legal.{AreRight, NoneLater}
 use Rattle.sh_parts.specs.Journals.{StateView}
 use Rattle.sh_parts.proofs.Moments.{none_later}
