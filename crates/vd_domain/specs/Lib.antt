@@ -1,0 +1,7 @@
+pub mod Numbered
+pub mod Lists
+pub mod Used
+pub mod Slots
+pub mod Held
+pub mod Handed
+pub mod Stands
