@@ -2,6 +2,5 @@ pub mod Numbered
 pub mod Lists
 pub mod Used
 pub mod Slots
-pub mod Held
+pub mod Reached
 pub mod Handed
-pub mod Stands

@@ -6,11 +6,10 @@
 //! a device it stands for. Each call is told by what the definitions answer after those acts, and adds its act.
 #![tactic(auto)]
 
+mod access;
 mod booking;
-mod domain;
 mod numbered;
 mod pages;
 mod streaming;
 mod uses;
 
-pub use domain::{Domain, NotLive, SyncError};

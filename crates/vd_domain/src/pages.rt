@@ -15,8 +15,8 @@ use vd_pool::Pool;
 /// Pages in a row: the first, and how many.
 #[derive(Clone, Copy)]
 pub struct Pages {
-    pub first: u64,
-    pub count: u64,
+    pub first: usize,
+    pub count: usize,
 }
 
 /// The pages that the slots from this one on meet, where a page has `per_page` slots.
@@ -28,8 +28,8 @@ pub fn pages_met(slot: u64, slots: u64, per_page: u64) -> Pages
     ensures some { 0 < result.count }
     ensures inside { (pages : ℕ) → slot + slots ≤ per_page * pages → result.first + result.count ≤ pages }
 {
-    let first = slot / per_page;
-    let last = (slot + slots - 1) / per_page;
+    let first = (slot / per_page) as usize;
+    let last = ((slot + slots - 1) / per_page) as usize;
     Pages {
         first,
         count: last - first + 1,
@@ -73,14 +73,14 @@ fn hold_page(map: &mut BounceMap, pool: &mut Pool, page: u32)
 }
 
 /// The first of some addresses that lies in no present page.
-pub fn first_missing(map: &BounceMap, at: u64, len: u64) -> Option<u64>
-    requires { at + len < 2 ^ 64 }
-    ensures first { result ≡ first_failing (λ a. is_present map.now (a / page_size map.now)) at len }
-    ensures there { IfNone result (IsThere map.now at len) }
+pub fn first_missing(map: &BounceMap, from: u64, len: u64) -> Option<u64>
+    requires { from + len < 2 ^ 64 }
+    ensures first { result ≡ first_failing (λ a. is_present map.now (a / page_size map.now)) from len }
+    ensures there { IfNone result (IsThere map.now from len) }
 {
     let size = PAGE_SIZE * map.per_page() as u64;
     let count = map.pages() as u64;
-    let mut at = at;
+    let mut at = from;
     let mut left = len;
     while left > 0 {
         let page = at / size;
