@@ -1,7 +1,6 @@
 -- The bytes of a driver's buffer that a mapping hands.
 use Rattle.std.specs.Prelude.{ℕ, List, [], ◌∷◌, ◌≡◌, ◌+◌, ◌-◌, ◌*◌, ◌/◌, Bool, length, take, drop}
 use Rattle.std.specs.List.{list_any}
-
 use Rattle.vd_num.specs.Number.{pages_of}
 use Rattle.vd_num.specs.declared.number.Range.{Range}
 use Rattle.vd_model.specs.declared.memory.Want.{Want}

@@ -4,3 +4,5 @@ pub mod Used
 pub mod Slots
 pub mod Reached
 pub mod Handed
+pub mod Held
+pub mod Stands

@@ -7,9 +7,13 @@
 #![tactic(auto)]
 
 mod access;
+mod areas;
 mod booking;
+mod domain;
 mod numbered;
 mod pages;
 mod streaming;
 mod uses;
 
+pub use areas::AREA_START;
+pub use domain::Domain;
