@@ -5,7 +5,7 @@ ghost use Rattle.std.specs.Option.{option_map};
 ghost use Rattle.vd_num.specs.Number.{is_within};
 ghost use Rattle.vd_pool.specs.Memory.{Memory};
 ghost use Rattle.vd_bounce.specs.Frames.{frame_of, Holds, Keeps};
-ghost use Rattle.vd_bounce.specs.Bounce.{Bounce, Place, Iova, Area, page_size, bounce_size, value, home, over, is_present, IsThere, SameShape, IsFit};
+ghost use Rattle.vd_bounce.specs.Bounce.{Bounce, Place, Iova, Area, page_size, bounce_size, value, home, over, is_present, IsThere, SameShape};
 
 use crate::rows;
 use std::alloc::{AllocError, Global};
@@ -59,8 +59,7 @@ impl BounceMap {
 
     /// How many pages there are.
     pub fn pages(&self) -> u32
-        ensures value { result ≡ length self.now.frames }
-        ensures fit { IsFit self.now }
+        ensures { result ≡ length self.now.frames }
     {
         self.frames.len() as u32
     }
@@ -83,8 +82,7 @@ impl BounceMap {
 
     /// Whether a range of the area is registered.
     pub fn is_registered(&self) -> bool
-        ensures value { result ≡ is_some self.now.user }
-        ensures fit { IsFit self.now }
+        ensures { result ≡ is_some self.now.user }
     {
         self.user.is_some()
     }

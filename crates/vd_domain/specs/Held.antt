@@ -1,15 +1,13 @@
 -- What contracts see of a domain.
-use Rattle.std.specs.Prelude.{ℕ, ◌+◌, ◌-◌, ◌*◌, ◌/◌, ◌<◌, ◌≤◌, ◌≡◌, ◌≢◌, ◌==◌, nat_lt, if◌then◌else◌, List, [], ◌∷◌, ◌++◌, length, Bool, true, Option, Some, None, is_some, All, map, find, ◌⊎◌, slice_index, count_by}
+use Rattle.std.specs.Prelude.{ℕ, ◌+◌, ◌-◌, ◌*◌, ◌/◌, ◌<◌, ◌≤◌, ◌≡◌, ◌≢◌, ◌==◌, nat_lt, if◌then◌else◌, List, [], ◌∷◌, ◌++◌, length, Bool, true, Option, Some, None, is_some, unwrap_or, All, map, find, ◌⊎◌, slice_index, count_by}
 use Rattle.std.specs.List.{list_any, AllPairs}
 use Rattle.vd_num.specs.Number.{pages_of, is_within}
 use Rattle.vd_pool.specs.Memory.{Memory}
 use Rattle.vd_bounce.specs.Frames.{frame_of, Holds}
-use Rattle.vd_bounce.specs.Bounce.{Bounce, Iova, Area, bounce_size, page_size, value, home, is_present}
+use Rattle.vd_bounce.specs.Bounce.{Bounce, bounce_size, is_present}
 use Rattle.vd_iova.specs.Space.{Space, taken_at}
-use Rattle.vd_model.specs.declared.memory.Region.{Region}
 use Rattle.vd_model.specs.Acts.{Streaming, Coherent}
 use Rattle.vd_model.specs.Live.{meets_page}
-use Rattle.vd_model.specs.AreaTurns.{first_region, region_of}
 
 pub record Held : Type 0 where
   -- the bounce pages and the daemon's area
@@ -77,6 +75,7 @@ pub record IsFit (h : Held) (low high : Space) (uses : List ℕ) : Type 0 where
   pub some : 0 < h.bounce.per_page
   pub few : h.bounce.per_page ≤ 16
   pub pages : 0 < length h.bounce.frames
+  pub room : (u : ℕ) → h.bounce.user ≡ Some u → u + bounce_size h.bounce ≤ length (unwrap_or h.bounce.area [])
   pub low_first : low.first ≡ h.bounce.per_page
   pub low_end : low.«end» ≡ bounce_slots h
   pub high_first : high.first ≡ bounce_slots h

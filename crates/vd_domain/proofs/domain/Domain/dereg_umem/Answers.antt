@@ -23,7 +23,7 @@ returns-clause-ok c = λ x acts s.
       zero,
       whole ∙ sym (sizes_same x h t.bounce),
       area_released x acts h c.release_user.new.self c.args.pool.now c.release_user.new.pool user.0 c.in_use.result.now t user.1
-          (c.is_registered.ensures.fit.user user.0 user.1) c.release_user.ensures.same
+          (c.self.invariant.room user.0 user.1) c.release_user.ensures.same
           (flag_is x acts h c.args.pool.now c.self.inside.low c.self.inside.high c.self.inside.uses c.in_use.result.now t c.self.invariant c.in_use.ensures.flags)
           c.release_user.ensures.present c.release_user.ensures.bounce c.release_user.ensures.area,
     )

@@ -20,7 +20,7 @@ returns-in-None-clause-ok c = λ x acts s.
 pub returns-then-is_registered-clause-ok : goal.returns-then-is_registered-clause-ok
 returns-then-is_registered-clause-ok c = λ x acts s.
     let may = test_true (may_register x acts c.args.uaddr c.args.iova c.args.size) (c.args.uaddr - area_start) c.in-Some.offset (c.in-Some.ensures.ok x acts c.args.pool.now s) in
-    let there : is_some c.args.self.now.bounce.user ≡ true = ap (λ (h : Held). is_some h.bounce.user) (sym c.self.view_is) ∙ sym c.if-is_registered.ensures.value in
+    let there : is_some c.args.self.now.bounce.user ≡ true = ap (λ (h : Held). is_some h.bounce.user) (sym c.self.view_is) ∙ sym c.if-is_registered.ensures in
     inr (refl, may.0, ap is_some s.registered ∙ some_map _ c.args.self.now.bounce.user ∙ there)
 
 pub returns-clause-ok : goal.returns-clause-ok
@@ -28,7 +28,7 @@ returns-clause-ok c = λ x acts s.
     let h : Held = the_view c.self.inside in
     let t : Stands x acts h c.args.pool.now = subst (λ (h : Held). Stands x acts h c.args.pool.now) (sym c.self.view_is) s in
     let may = test_true (may_register x acts c.args.uaddr c.args.iova c.args.size) (c.args.uaddr - area_start) c.in-Some.offset (c.in-Some.ensures.ok x acts c.args.pool.now s) in
-    let free : c.self.inside.bounce.user ≡ None = none_value c.self.inside.bounce.user (sym c.if-is_registered.ensures.value) in (
+    let free : c.self.inside.bounce.user ≡ None = none_value c.self.inside.bounce.user (sym c.if-is_registered.ensures) in (
       may.0,
       t.registered ∙ ap (λ u. option_map (λ u. record { base = u; size = bounce_size x }) u) free,
       subst (λ (base : ℕ). Stands x (Node (Registered base (bounce_size x)) ∷ acts) (record h { bounce = c.adopt_user.new.self }) c.adopt_user.new.pool) may.1
