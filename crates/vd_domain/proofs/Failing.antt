@@ -64,33 +64,24 @@ first_failing_found passes from (suc some) (suc len) bad fits e = by (passes fro
       ∙ sym (ap (λ b. cond b (first_failing passes (from + 1) some) (Some from)) h) ∙ e
 
 -- the same test further on
-up : ℕ → Option ℕ → Option ℕ
-up end None = None
-up end (Some a) = Some (a + end)
+abbrev pub up : ℕ → Option ℕ → Option ℕ
+up top None = None
+up top (Some a) = Some (a + top)
 
-pub first_failing_shifted : (passes tests : ℕ → Bool) (from end len : ℕ) → ((a : ℕ) → from ≤ a → a < from + len → passes (a + end) ≡ tests a)
-    → (o : Option ℕ) → first_failing tests from len ≡ o → first_failing passes (from + end) len ≡ up end o
-unfolding up
-first_failing_shifted passes tests from end zero same o e = ap (up end) e
-first_failing_shifted passes tests from end (suc len) same o e = by (tests from) refl
-    (first_failing_shifted passes tests (from + 1) end len (λ a low high. same a (omega arith) (omega arith)) (first_failing tests (from + 1) len) refl) where
-      by : (b : Bool) → tests from ≡ b → first_failing passes (from + 1 + end) len ≡ up end (first_failing tests (from + 1) len) → first_failing passes (from + end) (suc len) ≡ up end o
+pub first_failing_shifted : (passes tests : ℕ → Bool) (from top len : ℕ) → ((a : ℕ) → from ≤ a → a < from + len → passes (a + top) ≡ tests a)
+    → (o : Option ℕ) → first_failing tests from len ≡ o → first_failing passes (from + top) len ≡ up top o
+first_failing_shifted passes tests from top zero same o e = ap (up top) e
+first_failing_shifted passes tests from top (suc len) same o e = by (tests from) refl
+    (first_failing_shifted passes tests (from + 1) top len (λ a low high. same a (omega arith) (omega arith)) (first_failing tests (from + 1) len) refl) where
+      by : (b : Bool) → tests from ≡ b → first_failing passes (from + 1 + top) len ≡ up top (first_failing tests (from + 1) len) → first_failing passes (from + top) (suc len) ≡ up top o
       by true h rest =
-          let next : from + end + 1 ≡ from + 1 + end = omega arith in
-          ap (λ b. cond b (first_failing passes (from + end + 1) len) (Some (from + end))) (same from (omega arith) (omega arith) ∙ h)
+          let next : from + top + 1 ≡ from + 1 + top = omega arith in
+          ap (λ b. cond b (first_failing passes (from + top + 1) len) (Some (from + top))) (same from (omega arith) (omega arith) ∙ h)
           ∙ ap (λ k. first_failing passes k len) next ∙ rest
-          ∙ ap (up end) (sym (ap (λ b. cond b (first_failing tests (from + 1) len) (Some from)) h) ∙ e)
+          ∙ ap (up top) (sym (ap (λ b. cond b (first_failing tests (from + 1) len) (Some from)) h) ∙ e)
       by false h rest =
-          ap (λ b. cond b (first_failing passes (from + end + 1) len) (Some (from + end))) (same from (omega arith) (omega arith) ∙ h)
-          ∙ ap (up end) (sym (ap (λ b. cond b (first_failing tests (from + 1) len) (Some from)) h) ∙ e)
-
-pub up_none : (end : ℕ) → up end None ≡ None
-unfolding up
-up_none end = refl
-
-pub up_some : (end a : ℕ) → up end (Some a) ≡ Some (a + end)
-unfolding up
-up_some end a = refl
+          ap (λ b. cond b (first_failing passes (from + top + 1) len) (Some (from + top))) (same from (omega arith) (omega arith) ∙ h)
+          ∙ ap (up top) (sym (ap (λ b. cond b (first_failing tests (from + 1) len) (Some from)) h) ∙ e)
 
 -- addresses up to the end of a page lie in that page
 pub same_page : (size at i : ℕ) → 0 < size → at ≤ i → i < at + (size - at % size) → i / size ≡ at / size

@@ -2,8 +2,7 @@
 use Rattle.std.proofs.Common.{◌≡◌, ℕ, ◌<◌, ◌+◌, refl, ap, sym, ◌∙◌, arith, Bool, true, false, cond, ◌||◌, nat_lt, List, [], ◌∷◌, length}
 use Rattle.std.proofs.lemmas.Bool.Decides.{nat_tests}
 use Rattle.std.specs.Prelude.{is_some}
-use Rattle.std.proofs.lemmas.List.Sums.{sum_by-cons}
-use Rattle.std.specs.List.{slice_index, slice_index_or, count_by, list_any}
+use Rattle.std.specs.List.{slice_index, slice_index_or, filter, list_any}
 use Rattle.vd_iova.specs.Space.{Space}
 use Rattle.vd_pool.specs.Memory.{Memory}
 use Rattle.vd_bounce.specs.Frames.{frame_of}
@@ -13,13 +12,12 @@ use Rattle.vd_model.specs.Live.{in_use, meets_page}
 use Rattle.vd_domain.specs.Held.{Held, IsFit}
 use Rattle.vd_domain.specs.Stands.{Stands}
 
-pub any_counted : {X : Type 0} (f : X → Bool) (xs : List X) → nat_lt 0 (count_by f xs) ≡ list_any f xs
+pub any_counted : {X : Type 0} (f : X → Bool) (xs : List X) → nat_lt 0 (length (filter f xs)) ≡ list_any f xs
 any_counted f [] = refl
-any_counted {X} f (x ∷ xs) = by (f x) (sum_by-cons (λ (y : X). cond (f y) 1 0) x xs) (any_counted f xs) where
-  by : (b : Bool) → count_by f (x ∷ xs) ≡ cond b 1 0 + count_by f xs → nat_lt 0 (count_by f xs) ≡ list_any f xs
-      → nat_lt 0 (count_by f (x ∷ xs)) ≡ (b || list_any f xs)
-  by true e rest = let some : 0 < count_by f (x ∷ xs) = omega arith in grind (arith, nat_tests)
-  by false e rest = let same : count_by f (x ∷ xs) ≡ count_by f xs = omega arith in ap (λ n. nat_lt 0 n) same ∙ rest
+any_counted {X} f (x ∷ xs) = by (f x) (any_counted f xs) where
+  by : (b : Bool) → nat_lt 0 (length (filter f xs)) ≡ list_any f xs → nat_lt 0 (length (cond b (x ∷ filter f xs) (filter f xs))) ≡ (b || list_any f xs)
+  by true rest = grind (arith, nat_tests)
+  by false rest = rest
 
 module _ (x : Setting) (acts : List Act) (h : Held) (m : Memory) (low high : Space) (uses : List ℕ) (flags : List Bool)
     (s : Stands x acts h m) (fit : IsFit h low high uses) (flagged : (p : ℕ) → slice_index_or flags p false ≡ nat_lt 0 (slice_index uses p)) where

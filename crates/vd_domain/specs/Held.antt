@@ -1,5 +1,5 @@
 -- What contracts see of a domain.
-use Rattle.std.specs.Prelude.{ℕ, ◌+◌, ◌-◌, ◌*◌, ◌/◌, ◌<◌, ◌≤◌, ◌≡◌, ◌≢◌, ◌==◌, nat_lt, if◌then◌else◌, List, [], ◌∷◌, ◌++◌, length, Bool, true, Option, Some, None, is_some, unwrap_or, All, map, find, ◌⊎◌, slice_index, count_by}
+use Rattle.std.specs.Prelude.{ℕ, ◌+◌, ◌-◌, ◌*◌, ◌/◌, ◌<◌, ◌≤◌, ◌≡◌, ◌≢◌, ◌==◌, nat_lt, if◌then◌else◌, List, [], ◌∷◌, ◌++◌, length, Bool, true, Option, Some, None, is_some, unwrap_or, All, map, find, ◌⊎◌, slice_index, filter}
 use Rattle.std.specs.List.{list_any, AllPairs}
 use Rattle.vd_num.specs.Number.{pages_of, is_within}
 use Rattle.vd_pool.specs.Memory.{Memory}
@@ -84,7 +84,7 @@ pub record IsFit (h : Held) (low high : Space) (uses : List ℕ) : Type 0 where
   pub maps : AreTaken low h.maps (map mapping_holds h.live)
   pub regions : AreTaken high h.made (map region_holds h.regions)
   pub each : length uses ≡ length h.bounce.frames
-  pub count : (p : ℕ) → p < length h.bounce.frames → slice_index uses p ≡ count_by (meets_page h.bounce.per_page p) h.live
+  pub count : (p : ℕ) → p < length h.bounce.frames → slice_index uses p ≡ length (filter (meets_page h.bounce.per_page p) h.live)
   pub most : (p : ℕ) → slice_index uses p ≤ h.maps
   pub framed : (p : ℕ) → 0 < slice_index uses p → is_some (frame_of h.bounce.frames p) ≡ true
   pub slots : h.shared.per_page ≡ 1

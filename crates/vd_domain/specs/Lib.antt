@@ -3,6 +3,7 @@ pub mod Lists
 pub mod Used
 pub mod Slots
 pub mod Reached
-pub mod Handed
 pub mod Held
+pub mod Handed
 pub mod Stands
+pub mod Placing

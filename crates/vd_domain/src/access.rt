@@ -29,16 +29,14 @@ fn near(end: u64, at: u64, len: usize) -> usize
 
 /// The first of some addresses that can't be accessed.
 pub fn first_missing(bounce: &BounceMap, shared: &BounceMap, at: u64, len: usize) -> Option<u64>
-    requires { IsSmall bounce.now }
+    requires small { IsSmall bounce.now }
+    requires shared_small { IsSmall shared.now }
     ensures { result ≡ first_failing (is_reached bounce.now shared.now) at len }
 {
     let end = end_of(bounce);
     let near = near(end, at, len);
     if let Some(bad) = first_missing_in(bounce, at, near as u64) {
         return Some(bad);
-    }
-    if at > u64::MAX - len as u64 {
-        return Some(at);
     }
     match first_missing_in(shared, at.saturating_sub(end), (len - near) as u64) {
         Some(bad) => Some(bad + end),
@@ -60,7 +58,7 @@ pub fn read(
     requires shared_holds { Holds shared.now.frames store.now }
     requires shared_size { store.now.per_page ≡ shared.now.per_page }
     requires small { IsSmall bounce.now }
-    requires open { (a : ℕ) → at ≤ a → a < at + length out.old → is_reached bounce.now shared.now a ≡ true }
+    requires reach { (a : ℕ) → at ≤ a → a < at + length out.old → is_reached bounce.now shared.now a ≡ true }
     ensures { (i : ℕ) → i < length out.old → slice_index out.new i ≡ byte_at bounce.now pool.now shared.now store.now (at + i) }
 {
     let end = end_of(bounce);
@@ -85,7 +83,7 @@ pub fn write(
     requires shared_size { store.old.per_page ≡ shared.old.per_page }
     requires small { IsSmall bounce.old }
     requires plain { shared.old.user ≡ None }
-    requires open { (a : ℕ) → at ≤ a → a < at + length bytes.now → is_reached bounce.old shared.old a ≡ true }
+    requires reach { (a : ℕ) → at ≤ a → a < at + length bytes.now → is_reached bounce.old shared.old a ≡ true }
     ensures kept { Keeps bounce.old.frames bounce.new.frames pool.old pool.new }
     ensures shared_kept { Keeps shared.old.frames shared.new.frames store.old store.new }
     ensures bytes { (x : Place) → value bounce.new pool.new x

@@ -8,6 +8,7 @@
 
 mod access;
 mod areas;
+mod batch;
 mod booking;
 mod domain;
 mod numbered;
