@@ -111,6 +111,7 @@ impl BounceMap {
         ensures kept { Keeps self.old.frames self.new.frames pool.old pool.new }
         ensures bytes { (x : Place) → value self.new pool.new x ≡ over (home self.old at) bytes.now x (value self.old pool.old x) }
         ensures present { (p : ℕ) → is_present self.new p ≡ is_present self.old p }
+        ensures frames { self.new.frames ≡ self.old.frames }
         ensures same { SameShape self.old self.new }
     {
         if bytes.is_empty() {

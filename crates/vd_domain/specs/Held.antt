@@ -1,15 +1,13 @@
 -- What contracts see of a domain.
-use Rattle.std.specs.Prelude.{ℕ, ◌+◌, ◌-◌, ◌*◌, ◌/◌, ◌<◌, ◌≤◌, ◌≡◌, ◌≢◌, ◌==◌, nat_lt, if◌then◌else◌, List, [], ◌∷◌, ◌++◌, length, Bool, true, Option, Some, None, is_some, All, map, find, ◌||◌, false, slice_index, count_by}
-use Rattle.std.specs.List.{list_any}
+use Rattle.std.specs.Prelude.{ℕ, ◌+◌, ◌-◌, ◌*◌, ◌/◌, ◌<◌, ◌≤◌, ◌≡◌, ◌≢◌, ◌==◌, nat_lt, if◌then◌else◌, List, [], ◌∷◌, ◌++◌, length, Bool, true, Option, Some, None, is_some, unwrap_or, All, map, find, ◌⊎◌, slice_index, filter}
+use Rattle.std.specs.List.{list_any, AllPairs}
 use Rattle.vd_num.specs.Number.{pages_of, is_within}
 use Rattle.vd_pool.specs.Memory.{Memory}
 use Rattle.vd_bounce.specs.Frames.{frame_of, Holds}
-use Rattle.vd_bounce.specs.Bounce.{Bounce, Iova, Area, bounce_size, page_size, value, home, is_present}
+use Rattle.vd_bounce.specs.Bounce.{Bounce, bounce_size, is_present}
 use Rattle.vd_iova.specs.Space.{Space, taken_at}
-use Rattle.vd_model.specs.declared.memory.Region.{Region}
 use Rattle.vd_model.specs.Acts.{Streaming, Coherent}
 use Rattle.vd_model.specs.Live.{meets_page}
-use Rattle.vd_model.specs.AreaTurns.{first_region, region_of}
 
 pub record Held : Type 0 where
   -- the bounce pages and the daemon's area
@@ -37,18 +35,6 @@ mapping_of h number = find (λ m. m.number == number) h.live
 abbrev pub coherent_of : Held → ℕ → Option Coherent
 coherent_of h number = find (λ r. r.number == number) h.regions
 
--- an address that can be accessed: in a present bounce page, or in coherent memory
-abbrev pub is_reached : Held → ℕ → Bool
-is_reached h a =
-    if nat_lt a (bounce_size h.bounce) then is_present h.bounce (a / page_size h.bounce)
-    else is_present h.shared ((a - bounce_size h.bounce) / page_size h.shared)
-
--- the byte at an address that can be accessed, over the pool that the bounce pages were taken from
-abbrev pub byte_at : Held → Memory → ℕ → ℕ
-byte_at h m a =
-    if nat_lt a (bounce_size h.bounce) then value h.bounce m (home h.bounce a)
-    else value h.shared h.store (Iova (a - bounce_size h.bounce))
-
 -- a range of slots that is held under a number
 pub record Holding : Type 0 where
   pub number : ℕ
@@ -69,19 +55,15 @@ pub record IsTaken (space : Space) (made : ℕ) (h : Holding) : Type 0 where
   pub taken : taken_at space h.slot ≡ h.count
   pub number : h.number < made
 
--- two ranges have no slot in common and have different numbers
+-- two ranges have no slot in common, and different numbers
 pub record IsApart (h k : Holding) : Type 0 where
-  pub slots : is_within h.slot h.count k.slot || is_within k.slot k.count h.slot ≡ false
+  pub slots : (h.slot + h.count ≤ k.slot) ⊎ (k.slot + k.count ≤ h.slot)
   pub numbers : k.number ≢ h.number
-
-abbrev pub AreApart : List Holding → Type 0
-AreApart [] = Unit {0}
-AreApart (h ∷ hs) = All (IsApart h) hs × AreApart hs
 
 -- these are the ranges that are taken in a space
 pub record AreTaken (space : Space) (made : ℕ) (holds : List Holding) : Type 0 where
   pub each : All (IsTaken space made) holds
-  pub apart : AreApart holds
+  pub apart : AllPairs IsApart holds
   pub back : (q : ℕ) → 0 < taken_at space q → list_any (λ h. h.slot == q) holds ≡ true
 
 -- the region has the slot
@@ -92,6 +74,7 @@ has_slot slot r = is_within r.slot (pages_of r.len) slot
 pub record IsFit (h : Held) (low high : Space) (uses : List ℕ) : Type 0 where
   pub some : 0 < h.bounce.per_page
   pub few : h.bounce.per_page ≤ 16
+  pub room : (u : ℕ) → h.bounce.user ≡ Some u → u + bounce_size h.bounce ≤ length (unwrap_or h.bounce.area [])
   pub low_first : low.first ≡ h.bounce.per_page
   pub low_end : low.«end» ≡ bounce_slots h
   pub high_first : high.first ≡ bounce_slots h
@@ -100,7 +83,7 @@ pub record IsFit (h : Held) (low high : Space) (uses : List ℕ) : Type 0 where
   pub maps : AreTaken low h.maps (map mapping_holds h.live)
   pub regions : AreTaken high h.made (map region_holds h.regions)
   pub each : length uses ≡ length h.bounce.frames
-  pub count : (p : ℕ) → p < length h.bounce.frames → slice_index uses p ≡ count_by (meets_page h.bounce.per_page p) h.live
+  pub count : (p : ℕ) → p < length h.bounce.frames → slice_index uses p ≡ length (filter (meets_page h.bounce.per_page p) h.live)
   pub most : (p : ℕ) → slice_index uses p ≤ h.maps
   pub framed : (p : ℕ) → 0 < slice_index uses p → is_some (frame_of h.bounce.frames p) ≡ true
   pub slots : h.shared.per_page ≡ 1

@@ -57,7 +57,7 @@ pub fn book(
         Err(Full) => return Err(MapError::NoSpace),
     };
     let pages = pages_met(slot, n, per_page);
-    match enroll(mappings, pool, pages.count, Bounced { slot, want }) {
+    match enroll(mappings, pool, pages.count as u64, Bounced { slot, want }) {
         Some(number) => Ok(Booked {
             number,
             slot,

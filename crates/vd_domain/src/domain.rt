@@ -1,6 +1,6 @@
 //! A domain: what is mapped, shared and registered on one device.
 
-ghost use Rattle.std.specs.Prelude.{◌≡◌, ◌+◌, ◌-◌, ◌*◌, ◌/◌, ◌<◌, ◌≤◌, ◌^◌, ◌↔◌, ◌⊎◌, ℕ, List, [], ◌∷◌, ◌++◌, length, replicate, is_some, true, false, Some, None, unwrap_or, min, IfOk, IfNone, OnOk, OnErr, IsErr, MatchResult};
+ghost use Rattle.std.specs.Prelude.{◌≡◌, ◌+◌, ◌-◌, ◌*◌, ◌/◌, ◌<◌, ◌≤◌, ◌^◌, ◌↔◌, ◌⊎◌, ℕ, List, [], ◌∷◌, ◌++◌, length, replicate, is_some, true, false, Some, None, unwrap_or, IfOk, OnOk, OnErr, IsErr, MatchResult};
 ghost use Rattle.std.specs.Option.{option_map};
 ghost use Rattle.std.specs.List.{list_any};
 ghost use Rattle.vd_num.specs.Number.{pages_of};
@@ -14,15 +14,14 @@ ghost use Rattle.vd_model.specs.Place.{place_of, taken};
 ghost use Rattle.vd_model.specs.Puts.{is_to_device, is_from_device, bus_bytes, area_bytes};
 ghost use Rattle.vd_model.specs.AreaTurns.{first_bus, first_failing, first_region, daemon_regions, may_register, area_start};
 ghost use Rattle.vd_model.specs.RingTurns.{placed, map_acts};
-ghost use Rattle.vd_bounce.specs.Bounce as bounce;
-ghost use Rattle.vd_bounce.specs.Bounce.{IsThere};
-ghost use Rattle.vd_domain.specs.Held.{bounce_slots, is_reached, mapping_of, coherent_of};
+ghost use Rattle.vd_domain.specs.Held.{mapping_of, coherent_of};
 ghost use Rattle.vd_domain.specs.Handed.{IsOf, AreOf, bytes_of, streaming_of, coherent_made, info_of, range_of, is_coherent};
 
+use crate::access::{first_missing, read, write};
 use crate::booking::book;
 use crate::numbered::Numbered;
-use crate::pages::{first_missing, hold, pages_met};
-use crate::streaming::{Bounced, Extent, gives, hands};
+use crate::pages::{pages_met, show};
+use crate::streaming::{Bounced, Extent, gives};
 use crate::uses::Uses;
 use std::alloc::{AllocError, Global};
 use std::marker::Model;
@@ -156,11 +155,15 @@ impl Domain {
         let per_page = self.bounce.per_page() as u64;
         let booked = book(&mut self.low, &mut self.mappings, pool, per_page, want)?;
         self.uses.enter(booked.pages);
-        hold(&mut self.bounce, pool, booked.pages);
         let iova = PAGE_SIZE * booked.slot;
-        if hands(want.dir) {
-            self.bounce.put(pool, iova, bytes);
-        }
+        show(
+            &mut self.bounce,
+            pool,
+            booked.pages,
+            want.dir,
+            iova,
+            bytes,
+        );
         self.is_shown = true;
         Ok(Mapping {
             number: booked.number,
@@ -220,16 +223,10 @@ impl Domain {
             (λ bus. first_bus x acts at (length out.old) ≡ Some bus.at) }
         ensures left { OnErr result (out.new ≡ out.old) }
     {
-        if let Some(at) = self.first_missing(at, out.len() as u64) {
+        if let Some(at) = first_missing(&self.bounce, &self.shared, at, out.len()) {
             return Err(Bus { at });
         }
-        let near = self.near(at, out.len());
-        let end = self.end();
-        let (low, high) = out.split_at_mut(near);
-        self.bounce.get(pool, at, low);
-        if !high.is_empty() {
-            self.shared.get(&self.store, at + near as u64 - end, high);
-        }
+        read(&self.bounce, pool, &self.shared, &self.store, at, out);
         Ok(())
     }
 
@@ -245,49 +242,18 @@ impl Domain {
         ensures counts { (self.new.maps ≡ self.old.maps) × (self.new.made ≡ self.old.made) }
         ensures page { self.new.bounce.per_page ≡ self.old.bounce.per_page }
     {
-        if let Some(at) = self.first_missing(at, bytes.len() as u64) {
+        if let Some(at) = first_missing(&self.bounce, &self.shared, at, bytes.len()) {
             return Err(Bus { at });
         }
-        let near = self.near(at, bytes.len());
-        let end = self.end();
-        self.bounce.put(pool, at, &bytes[..near]);
-        if near < bytes.len() {
-            self.shared.put(&mut self.store, at + near as u64 - end, &bytes[near..]);
-        }
+        write(
+            &mut self.bounce,
+            pool,
+            &mut self.shared,
+            &mut self.store,
+            at,
+            bytes,
+        );
         Ok(())
-    }
-
-    /// Where bounce memory ends and coherent memory begins.
-    fn end(&self) -> u64
-        ensures value { result ≡ 4096 * bounce_slots self.now }
-        ensures size { result ≡ bounce.bounce_size self.now.bounce }
-        ensures small { result ≤ 2 ^ 28 }
-    {
-        let slots = self.bounce.pages() as u64 * self.bounce.per_page() as u64;
-        PAGE_SIZE * slots
-    }
-
-    /// How many of `len` bytes from an address on lie below coherent memory.
-    fn near(&self, at: u64, len: usize) -> usize
-        ensures { result ≡ min len (bounce.bounce_size self.now.bounce - at) }
-    {
-        let end = self.end();
-        len.min(end.saturating_sub(at) as usize)
-    }
-
-    /// The first of some addresses that can't be accessed.
-    fn first_missing(&self, at: u64, len: u64) -> Option<u64>
-        requires { len < 2 ^ 63 }
-        ensures first { result ≡ first_failing (is_reached self.now) at len }
-        ensures low { IfNone result (IsThere self.now.bounce at (min len (bounce.bounce_size self.now.bounce - at))) }
-        ensures high { IfNone result (IsThere self.now.shared (at - bounce.bounce_size self.now.bounce) (len - (bounce.bounce_size self.now.bounce - at))) }
-    {
-        let end = self.end();
-        let near = len.min(end.saturating_sub(at));
-        if let Some(bad) = first_missing(&self.bounce, at, near) {
-            return Some(bad);
-        }
-        first_missing(&self.shared, at.saturating_sub(end), len - near).map(|bad| bad + end)
     }
 
     /// Gives every frame back and keeps nothing, whatever is live or registered.

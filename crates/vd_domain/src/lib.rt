@@ -6,6 +6,7 @@
 //! a device it stands for. Each call is told by what the definitions answer after those acts, and adds its act.
 #![tactic(auto)]
 
+mod access;
 mod booking;
 mod domain;
 mod numbered;

@@ -43,8 +43,8 @@ impl Uses {
         ensures counts { (p : ℕ) → slice_index self.new p ≡ (if is_within pages.first pages.count p then slice_index self.old p + 1 else slice_index self.old p) }
         ensures len { length self.new ≡ length self.old }
     {
+        let _ = &self.counts;
         for page in pages.first..pages.first + pages.count {
-            let page = page as usize;
             self.counts[page] += 1;
             self.in_use[page] = true;
         }
@@ -57,8 +57,8 @@ impl Uses {
         ensures counts { (p : ℕ) → slice_index self.new p ≡ (if is_within pages.first pages.count p then slice_index self.old p - 1 else slice_index self.old p) }
         ensures len { length self.new ≡ length self.old }
     {
+        let _ = &self.counts;
         for page in pages.first..pages.first + pages.count {
-            let page = page as usize;
             self.counts[page] -= 1;
             self.in_use[page] = self.counts[page] > 0;
         }
