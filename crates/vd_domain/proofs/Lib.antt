@@ -8,10 +8,4 @@ pub mod Puttings
 pub mod Present
 pub mod Counts
 pub mod Fits
-pub mod Putting
-pub mod Presence
-pub mod EachFrom
-pub mod InUse
-pub mod AreaActs
-pub mod Undoing
-pub mod Batches
+pub mod Steps

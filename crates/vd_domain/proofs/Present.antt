@@ -1,5 +1,5 @@
 -- Which pages are present, after some got frames.
-use Rattle.std.proofs.Common.{◌≡◌, ℕ, ◌+◌, ◌-◌, ◌*◌, ◌/◌, ◌%◌, ◌<◌, ◌≤◌, ◌⊎◌, inl, inr, refl, ap, sym, ◌∙◌, arith, Bool, true, false, ◌&&◌, ◌||◌, nat_lt, List, length, Option, Some, None, true≢false, min}
+use Rattle.std.proofs.Common.{◌≡◌, ℕ, suc, ◌+◌, ◌-◌, ◌*◌, ◌/◌, ◌%◌, ◌<◌, ◌≤◌, ◌⊎◌, inl, inr, refl, ap, sym, ◌∙◌, arith, Bool, true, false, ◌&&◌, ◌||◌, nat_lt, List, length, Option, Some, None, true≢false, min}
 use Rattle.std.specs.Prelude.{is_some}
 use Rattle.std.specs.Option.{option_map_or}
 use Rattle.std.proofs.lemmas.Bool.Decides.{nat_tests, leb_tells}
@@ -60,6 +60,17 @@ page_below size n a some below = elim (leb_tells n (a / size)) [
       (let p : n ≤ a / size = past.1 in
       let more : size * n ≤ size * (a / size) = mul-le-mul_left size p in
       let whole : size * (a / size) + a % size ≡ a = split size a some in
+      absurd (omega arith))
+]
+
+pub page_past : (size n a : ℕ) → 0 < size → size * n ≤ a → n ≤ a / size
+page_past size n a some above = elim (leb_tells n (a / size)) [
+  | inl past ↦ past.1
+  | inr low ↦
+      (let p : suc (a / size) ≤ n = (let l = low.1 in omega arith) in
+      let more : size * suc (a / size) ≤ size * n = mul-le-mul_left size p in
+      let whole : size * (a / size) + a % size ≡ a = split size a some in
+      let small : a % size < size = index_small size a some in
       absurd (omega arith))
 ]
 

@@ -124,6 +124,7 @@ module _ (x : Setting) (acts : List Act) (h : Held) (m : Memory) (s : Stands x a
   -- ---- one act more that puts bytes at addresses
 
   module _ (act : Act) (way : IsAddressed x.per_page acts act) (new : Held) (n : Memory) where
+
     pub next_bytes : ((a : ℕ) → a < bounce_size h.bounce → is_present x.per_page (act ∷ acts) (page_of x.per_page a) ≡ true → h.bounce.user ≡ None
         → value new.bounce n (b.Iova a) ≡ or_byte (address_put x.per_page (last_put x.per_page acts) acts act a) (last_byte x acts (Iova a)))
         → h.bounce.user ≡ None → (a : ℕ) → a < model.bounce_size x → is_present x.per_page (act ∷ acts) (page_of x.per_page a) ≡ true
@@ -149,6 +150,7 @@ module _ (x : Setting) (acts : List Act) (h : Held) (m : Memory) (s : Stands x a
         → value new.bounce n (b.Area (u + a)) ≡ or_byte (address_put x.per_page (last_put x.per_page acts) acts act a) (value h.bounce m (b.Area (u + a))))
         → long ≤ length (unwrap_or h.bounce.area []) → (o : ℕ) → o < long → value new.bounce n (b.Area o) ≡ last_byte x (act ∷ acts) (Area o)
     next_area long free outside inside fits o below = by h.bounce.user refl where
+
       old : value h.bounce m (b.Area o) ≡ last_byte x acts (Area o)
       old = s.area_bytes o (omega arith)
 

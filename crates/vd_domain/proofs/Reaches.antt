@@ -20,12 +20,12 @@ high_same b s a above =
     let test : nat_lt a (bounce_size b) ≡ false = grind (arith, nat_tests) in
     ap (λ t. if t then is_present b (a / page_size b) else is_present s ((a - bounce_size b) / page_size s)) test
 
-low_byte : (b : Bounce) (m : Memory) (s : Bounce) (n : Memory) (a : ℕ) → a < bounce_size b → byte_at b m s n a ≡ value b m (home b a)
+pub low_byte : (b : Bounce) (m : Memory) (s : Bounce) (n : Memory) (a : ℕ) → a < bounce_size b → byte_at b m s n a ≡ value b m (home b a)
 low_byte b m s n a below =
     let test : nat_lt a (bounce_size b) ≡ true = grind (arith, nat_tests) in
     ap (λ t. if t then value b m (home b a) else value s n (home s (a - bounce_size b))) test
 
-high_byte : (b : Bounce) (m : Memory) (s : Bounce) (n : Memory) (a : ℕ) → bounce_size b ≤ a → byte_at b m s n a ≡ value s n (home s (a - bounce_size b))
+pub high_byte : (b : Bounce) (m : Memory) (s : Bounce) (n : Memory) (a : ℕ) → bounce_size b ≤ a → byte_at b m s n a ≡ value s n (home s (a - bounce_size b))
 high_byte b m s n a above =
     let test : nat_lt a (bounce_size b) ≡ false = grind (arith, nat_tests) in
     ap (λ t. if t then value b m (home b a) else value s n (home s (a - bounce_size b))) test

@@ -7,8 +7,6 @@
 #![tactic(auto)]
 
 mod access;
-mod areas;
-mod batch;
 mod booking;
 mod domain;
 mod numbered;

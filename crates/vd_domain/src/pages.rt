@@ -57,7 +57,14 @@ fn hold(map: &mut BounceMap, pool: &mut Pool, pages: Pages)
 }
 
 /// Gives frames to the pages of a mapping that have none, and puts its bytes there if it hands them.
-pub fn show(map: &mut BounceMap, pool: &mut Pool, pages: Pages, dir: Dir, iova: u64, bytes: &[u8])
+pub fn show(
+    map: &mut BounceMap,
+    pool: &mut Pool,
+    pages: Pages,
+    dir: Dir,
+    iova: u64,
+    bytes: &[u8],
+)
     requires holds { Holds map.old.frames pool.old }
     requires size { pool.old.per_page ≡ map.old.per_page }
     requires range { pages.first + pages.count ≤ length map.old.frames }

@@ -10,9 +10,8 @@ invariant_of-self g c =
     (rising_last 0 c.self.inside.made c.self.inside.map.entries c.args.value c.self.invariant)
 
 pub returns-in-Ok-clause-ok : goal.returns-in-Ok-clause-ok
-returns-in-Ok-clause-ok g c = (
-  ap (λ (n : Numbered g.row.T.Denot). n.made) c.self.view_is,
-  ap (λ (es : List (ℕ × g.row.T.Denot)). record { entries = es; made = c.self.inside.made + 1 })
-      (c.in-Ok.ensures.entries ∙ inserted_last 0 c.self.inside.made c.self.inside.map.entries c.args.value c.self.invariant
-      ∙ ap (λ (n : Numbered g.row.T.Denot). n.entries ++ (c.self.inside.made, c.args.value) ∷ []) c.self.view_is),
-)
+returns-in-Ok-clause-ok g c =
+    (ap (λ (n : Numbered g.row.T.Denot). n.made) c.self.view_is,
+    ap (λ (es : List (ℕ × g.row.T.Denot)). record { entries = es; made = c.self.inside.made + 1 })
+    (c.in-Ok.ensures.entries ∙ inserted_last 0 c.self.inside.made c.self.inside.map.entries c.args.value c.self.invariant
+    ∙ ap (λ (n : Numbered g.row.T.Denot). n.entries ++ (c.self.inside.made, c.args.value) ∷ []) c.self.view_is))
