@@ -46,6 +46,7 @@ module _ (h : Held) (low high : Space) (uses : List ℕ) (fit : IsFit h low high
   mapped_fit m first count b after counts number some same gains met frames counted long = record {
     some = (let some = fit.some in let size = same.size in omega arith);
     few = (let few = fit.few in let size = same.size in omega arith);
+    pages = subst (λ n. 0 < n) (sym same.pages) fit.pages;
     room = room_kept h.bounce b same fit.room;
     low_first = gains.first ∙ fit.low_first ∙ sym same.size;
     low_end = gains.top ∙ fit.low_end ∙ sym slots;
@@ -120,6 +121,7 @@ module _ (h : Held) (low high : Space) (uses : List ℕ) (fit : IsFit h low high
   unmapped_fit a m e first count after counts loses met counted long = record {
     some = fit.some;
     few = fit.few;
+    pages = fit.pages;
     room = fit.room;
     low_first = loses.first ∙ fit.low_first;
     low_end = loses.top ∙ fit.low_end;
@@ -182,6 +184,7 @@ module _ (h : Held) (low high : Space) (uses : List ℕ) (fit : IsFit h low high
   written_fit b s store same frames shared holds size present = record {
     some = (let some = fit.some in let size = same.size in omega arith);
     few = (let few = fit.few in let size = same.size in omega arith);
+    pages = subst (λ n. 0 < n) (sym same.pages) fit.pages;
     room = room_kept h.bounce b same fit.room;
     low_first = fit.low_first ∙ sym same.size;
     low_end = fit.low_end ∙ sym slots;

@@ -10,7 +10,7 @@ use Rattle.vd_pool.specs.Memory.{Memory, Grows, byte_of}
 use Rattle.vd_bounce.specs.Frames.{frame_of}
 use Rattle.vd_bounce.specs.Bounce as b
 use Rattle.vd_bounce.specs.Bounce.{Bounce, Place, value, over, home_by, bounce_size, page_size, SameShape}
-use Rattle.vd_iova.specs.Space.{Space}
+use Rattle.vd_iova.specs.Space.{Space, taken_of}
 use Rattle.vd_model.specs.declared.memory.Origin.TheVariants.{Daemon, Handed}
 use Rattle.vd_model.specs.Setting as model
 use Rattle.vd_model.specs.Setting.{Setting}
@@ -20,10 +20,11 @@ use Rattle.vd_model.specs.Puts.{Cell, Put, Iova, Area, Ram, last_put, ram, ram_b
 use Rattle.vd_model.specs.AreaTurns.{is_accessible, first_bus, first_failing}
 use Rattle.vd_domain.specs.Reached.{is_reached, byte_at}
 use Rattle.vd_domain.specs.Slots.{meets_slots}
-use Rattle.vd_domain.specs.Held.{Held, IsFit, IsTaken, Holding, region_holds, bounce_slots, has_slot, mapping_of}
+use Rattle.vd_domain.specs.Held.{Held, IsFit, IsTaken, Holding, mapping_holds, region_holds, bounce_slots, has_slot, mapping_of}
 use Rattle.vd_domain.specs.Stands.{Stands, last_byte}
 use Rattle.vd_domain.specs.Handed.{IsOf}
-use Rattle.vd_domain.proofs.Holdings.{any_map, any_none}
+use Rattle.vd_model.specs.Place.{place_of, taken, meets, mapping_slots, region_slots}
+use Rattle.vd_domain.proofs.Holdings.{any_map, any_none, any_more, slots_of, meets_are, place_same}
 use Rattle.vd_domain.proofs.Entries.{found_passes}
 use Rattle.vd_domain.proofs.Failing.{first_failing_same, first_failing_none}
 use Rattle.vd_domain.proofs.Reaches.{low_same, high_same, low_byte, high_byte}
@@ -51,7 +52,7 @@ each_at f from (suc len) (suc j) below = each_at f (from + 1) len j (omega arith
 
 -- ---- a pool that has more frames
 
-grown_value : (c : Bounce) (m n : Memory) → Grows m n → (p : Place) → value c n p ≡ value c m p
+pub grown_value : (c : Bounce) (m n : Memory) → Grows m n → (p : Place) → value c n p ≡ value c m p
 grown_value c m n g (b.Iova a) = by (frame_of c.frames (a / page_size c)) where
   by : (o : Option ℕ) → option_map_or (λ f. byte_of n f (a % page_size c)) o 0 ≡ option_map_or (λ f. byte_of m f (a % page_size c)) o 0
   by None = refl
@@ -215,6 +216,51 @@ module _ (x : Setting) (acts : List Act) (h : Held) (m : Memory) (s : Stands x a
       → ((i : ℕ) → i < len → slice_index out i ≡ byte_at h.bounce m h.shared h.store (at + i)) → out ≡ bus_bytes x.per_page acts at len
   loaded at len out long none bytes = list_each (λ a. (shown x.per_page acts a).byte) out at len long
       (λ i below. bytes i below ∙ byte_is (at + i) (first_failing_none (is_reached h.bounce h.shared) at len none (at + i) (omega arith) (omega arith)))
+
+  -- the bytes of bounce memory that a mapping brings back
+  pub fetched : (at len : ℕ) (out : List ℕ) → length out ≡ len → ((a : ℕ) → at ≤ a → a < at + len → (a < bounce_size h.bounce) × (b.is_present h.bounce (a / page_size h.bounce) ≡ true))
+      → ((i : ℕ) → i < len → slice_index out i ≡ value h.bounce m (b.home h.bounce (at + i))) → out ≡ bus_bytes x.per_page acts at len
+  fetched at len out long there bytes = list_each (λ a. (shown x.per_page acts a).byte) out at len long
+      (λ i below. let k = there (at + i) (omega arith) (omega arith) in
+      bytes i below ∙ shown_low x acts h m s (at + i) k.0 (sym (low_present (at + i) k.0) ∙ k.1) fit.room)
+
+  -- ---- places
+
+  pub low_place : (n : ℕ) → place_of (taken_of low) n low.first low.«end» ≡ place_of (taken acts) n x.per_page x.bounce
+  low_place n =
+      ap (λ k. place_of (taken_of low) n k low.«end») (fit.low_first ∙ sym s.per_page)
+      ∙ ap (λ k. place_of (taken_of low) n x.per_page k) (fit.low_end ∙ sym s.bounce)
+      ∙ place_same (taken_of low) (taken acts) n x.per_page x.bounce agree where
+        region_off : (k : ℕ) → k + n ≤ x.bounce → list_any (meets k n) (map region_slots (live_regions acts)) ≡ false
+        region_off k top =
+            ap (λ (rs : List Coherent). list_any (meets k n) (map region_slots rs)) (sym s.regions)
+            ∙ any_map region_slots (meets k n) (λ r. meets k n (region_slots r)) (λ r. refl) h.regions
+            ∙ sym (any_map region_holds (λ (g : Holding). meets k n (slots_of g)) (λ r. meets k n (region_slots r)) (λ r. refl) h.regions)
+            ∙ any_none (λ (g : Holding). meets k n (slots_of g)) (map region_holds h.regions) (λ i d below. off (slice_index_or (map region_holds h.regions) i d) (fit.regions.each i d below)) where
+              off : (g : Holding) → IsTaken high h.made g → meets k n (slots_of g) ≡ false
+              off g t =
+                  let first = t.low in
+                  let at = fit.high_first in
+                  let bounce = s.bounce in
+                  let under : k + n ≤ g.slot = omega arith in
+                  two (nat_lt k (g.slot + g.count)) g.slot (k + n) under where
+                    two : (b : Bool) (i j : ℕ) → j ≤ i → (b && nat_lt i j) ≡ false
+                    two true i j le = grind (arith, nat_tests)
+                    two false i j le = refl
+
+        or_false : (t : Bool) → (t || false) ≡ t
+        or_false true = refl
+        or_false false = refl
+
+        agree : (k : ℕ) → x.per_page ≤ k → k + n ≤ x.bounce → list_any (meets k n) (taken_of low) ≡ list_any (meets k n) (taken acts)
+        agree k above top =
+            meets_are low h.maps (map mapping_holds h.live) fit.maps k n
+            ∙ any_map mapping_holds (λ (g : Holding). meets k n (slots_of g)) (λ m. meets k n (mapping_slots m)) (λ m. refl) h.live
+            ∙ ap (λ (l : List Streaming). list_any (λ m. meets k n (mapping_slots m)) l) s.live
+            ∙ sym (any_map mapping_slots (meets k n) (λ m. meets k n (mapping_slots m)) (λ m. refl) (live acts))
+            ∙ sym (or_false (list_any (meets k n) (map mapping_slots (live acts))))
+            ∙ ap (λ t. list_any (meets k n) (map mapping_slots (live acts)) || t) (sym (region_off k top))
+            ∙ sym (any_more (meets k n) (map mapping_slots (live acts)) (map region_slots (live_regions acts)))
 
   -- ---- a daemon's write
 

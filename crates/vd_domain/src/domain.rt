@@ -23,11 +23,25 @@ use crate::numbered::Numbered;
 use crate::pages::{pages_met, show};
 use crate::streaming::{Bounced, Extent, gives};
 use crate::uses::Uses;
-use std::alloc::Global;
+use std::alloc::{AllocError, Global};
 use std::marker::Model;
-use vd_bounce::BounceMap;
+use vd_bounce::{AreaError, BounceMap};
 use vd_iova::Iova;
+use vd_model::{MapError, MapInfo, Mapping, Region, Want};
+use vd_num::{Bus, Errno, PAGE_SIZE, Range, pages};
 use vd_pool::Pool;
+
+/// No live mapping, or no live region, has the number.
+#[derive(Clone, Copy, Debug, PartialEq, Eq)]
+pub struct NotLive;
+
+/// Why a mapping isn't synchronized.
+#[derive(Clone, Copy, Debug, PartialEq, Eq)]
+pub enum SyncError {
+    NotLive,
+    /// The mapping carries no bytes that way.
+    WrongDir,
+}
 
 /// The memory of a device. It can't be dropped, since each frame has to be given back.
 pub struct Domain {
