@@ -16,3 +16,4 @@ pub mod InUse
 pub mod AreaActs
 pub mod Undoing
 pub mod Batches
+pub mod Shows

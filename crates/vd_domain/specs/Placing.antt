@@ -1,5 +1,5 @@
 -- What some wants were given in order, each after those before it.
-use Rattle.std.specs.Prelude.{ℕ, ◌+◌, ◌*◌, ◌<◌, ◌≤◌, ◌≡◌, ◌==◌, if◌then◌else◌, List, [], ◌∷◌, Some}
+use Rattle.std.specs.Prelude.{ℕ, ◌+◌, ◌*◌, ◌<◌, ◌≤◌, ◌≡◌, ◌==◌, if◌then◌else◌, List, [], ◌∷◌, ◌++◌, ◌^◌, length, true, Some}
 use Rattle.std.specs.List.{list_any}
 use Rattle.vd_num.specs.Number.{pages_of, is_within}
 use Rattle.vd_iova.specs.Space.{Space, taken_of, taken_at}
@@ -9,7 +9,8 @@ use Rattle.vd_model.specs.Place.{Slots, place_of, meets}
 use Rattle.vd_domain.specs.declared.streaming.Bounced.{Bounced}
 use Rattle.vd_domain.specs.declared.booking.Booked.{Booked}
 use Rattle.vd_domain.specs.Slots.{meets_slots}
-use Rattle.vd_domain.specs.Held.{Holding}
+use Rattle.vd_bounce.specs.Bounce.{Bounce}
+use Rattle.vd_domain.specs.Held.{Held, IsFit, Holding}
 
 -- a want was given a number, the place that it has in the space, and the pages of that place
 pub record IsGiven (g : ℕ) (space : Space) (made : ℕ) (want : Want) (b : Booked) (next : Space) : Type 0 where
@@ -49,3 +50,19 @@ pages_met (b ∷ bs) = b.pages.count + pages_met bs
 abbrev pub IsSeen : Space → List Holding → List Slots → Type 0
 IsSeen space holds held = (start n : ℕ) → space.first ≤ start → start + n ≤ space.«end»
     → list_any (meets start n) held ≡ list_any (λ (h : Holding). meets start n (record { start = h.slot; count = h.count })) holds
+
+-- a domain after these mappings, with this bounce memory
+abbrev pub shown : Held → Bounce → List Streaming → Held
+shown h b [] = record h { bounce = b }
+shown h b (m ∷ ms) = shown (record h { live = h.live ++ m ∷ []; maps = h.maps + 1; is_shown = true }) b ms
+
+-- there is a domain with this bounce memory, in whose space the wants are given what they have
+pub record IsReady (b : Bounce) (uses : List ℕ) (wants : List Want) (booked : List Booked) : Type 0 where
+  pub domain : Held
+  pub low : Space
+  pub high : Space
+  pub after : Space
+  pub bounce : domain.bounce ≡ b
+  pub fit : IsFit domain low high uses
+  pub given : AreGiven domain.bounce.per_page low domain.maps wants booked after
+  pub few : domain.maps + length wants ≤ 2 ^ 62
