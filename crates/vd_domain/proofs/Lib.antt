@@ -1,0 +1,12 @@
+pub mod Rising
+pub mod Spans
+pub mod Failing
+pub mod Reaches
+pub mod Entries
+pub mod Holdings
+pub mod Puttings
+pub mod Present
+pub mod Counts
+pub mod Fits
+pub mod Steps
+pub mod Opened
