@@ -1,21 +1,26 @@
 -- What is true of each domain stays so: after a map, an unmap and a write.
-use Rattle.std.proofs.Common.{◌≡◌, ◌≢◌, ℕ, ◌+◌, ◌-◌, ◌*◌, ◌/◌, ◌<◌, ◌≤◌, ◌^◌, ◌⊎◌, inl, inr, refl, subst, ap, sym, ◌∙◌, arith, Bool, true, false, ◌&&◌, ◌||◌, not, nat_lt, nat_le, if◌then◌else◌, ◌==◌, List, [], ◌∷◌, ◌++◌, length, Option, Some, None, All, map, filter, find, true≢false}
+use Rattle.std.proofs.Common.{◌≡◌, ℕ, zero, suc, replicate, ◌+◌, ◌-◌, ◌*◌, ◌/◌, ◌<◌, ◌≤◌, inl, inr, refl, subst, ap, sym, ◌∙◌, arith, Bool, true, false, ◌&&◌, ◌||◌, not, nat_lt, if◌then◌else◌, ◌==◌, List, [], ◌∷◌, ◌++◌, length, Option, Some, None, map, filter, find}
 use Rattle.std.specs.Prelude.{is_some, unwrap_or}
 use Rattle.std.specs.List.{list_any, slice_index}
 use Rattle.std.specs.Option.{option_map}
-use Rattle.std.proofs.lemmas.Bool.Decides.{nat_tests, leb_tells}
+use Rattle.std.proofs.lemmas.Bool.Decides.{leb_tells}
 use Rattle.std.proofs.lemmas.List.{get_or_past}
 use Rattle.vd_num.specs.Number.{is_within, pages_of}
 use Rattle.vd_pool.specs.Memory.{Memory}
 use Rattle.vd_bounce.specs.Frames.{frame_of, Holds}
 use Rattle.vd_bounce.specs.Bounce.{Bounce, SameShape, bounce_size, page_size, is_present}
 use Rattle.vd_iova.specs.Space.{Space, taken_at}
-use Rattle.vd_model.specs.Acts.{Streaming, Coherent}
+use Rattle.vd_model.specs.Acts.{Streaming}
 use Rattle.vd_model.specs.Live.{meets_page}
 use Rattle.vd_domain.specs.Slots.{meets_slots}
-use Rattle.vd_domain.specs.Held.{Held, IsFit, AreTaken, IsTaken, Holding, mapping_holds, mapping_of, bounce_slots, has_slot}
+use Rattle.vd_domain.specs.Held.{Held, IsFit, AreTaken, IsTaken, Holding, mapping_holds, region_holds, mapping_of, bounce_slots, has_slot}
+use Rattle.vd_domain.specs.Numbered.{Numbered}
+use Rattle.vd_domain.specs.declared.streaming.Bounced.{Bounced}
+use Rattle.vd_domain.specs.declared.streaming.Extent.{Extent}
+use Rattle.vd_domain.specs.Lists.{mappings_of, regions_of}
 use Rattle.vd_domain.proofs.Entries.{mapped_more, mapped_fewer, mapped_found}
 use Rattle.vd_domain.proofs.Holdings.{Gains, Loses, taken_more, taken_fewer, held_is}
+use Rattle.vd_domain.proofs.Present.{page_below, framed_present, address_meets}
 use Rattle.vd_domain.proofs.Counts.{count_map, count_more, count_fewer, count_found}
 
 -- a test of pages on mappings is one on what they hold
@@ -46,7 +51,6 @@ module _ (h : Held) (low high : Space) (uses : List ℕ) (fit : IsFit h low high
   mapped_fit m first count b after counts number some same gains met frames counted long = record {
     some = (let some = fit.some in let size = same.size in omega arith);
     few = (let few = fit.few in let size = same.size in omega arith);
-    pages = subst (λ n. 0 < n) (sym same.pages) fit.pages;
     room = room_kept h.bounce b same fit.room;
     low_first = gains.first ∙ fit.low_first ∙ sym same.size;
     low_end = gains.top ∙ fit.low_end ∙ sym slots;
@@ -112,6 +116,21 @@ module _ (h : Held) (low high : Space) (uses : List ℕ) (fit : IsFit h low high
   pub live_counted : (a : ℕ) (m : Streaming) → mapping_of h a ≡ Some m → (p : ℕ) → p < length h.bounce.frames → meets_slots h.bounce.per_page p m.slot (pages_of m.want.len) ≡ true → 0 < slice_index uses p
   live_counted a m e p below meets = subst (λ n. 0 < n) (sym (fit.count p below)) (count_found (meets_page h.bounce.per_page p) (λ (m : Streaming). m.number == a) h.live m e meets)
 
+  -- its bytes lie in present pages
+  pub live_there : (a : ℕ) (m : Streaming) → mapping_of h a ≡ Some m → (k : ℕ) → 4096 * m.slot ≤ k → k < 4096 * m.slot + m.want.len
+      → (k < bounce_size h.bounce) × (is_present h.bounce (k / page_size h.bounce) ≡ true)
+  live_there a m e k from to =
+      let inside = live_inside a m e in
+      let top = inside.1 in
+      let enough : m.want.len ≤ 4096 * pages_of m.want.len = omega arith in
+      let size : 4096 * h.bounce.per_page * length h.bounce.frames ≡ 4096 * bounce_slots h = omega arith in
+      let below : k < bounce_size h.bounce = omega arith in
+      let page : k / page_size h.bounce < length h.bounce.frames = page_below (page_size h.bounce) (length h.bounce.frames) k (let some = fit.some in omega arith) below in (
+        below,
+        framed_present h.bounce (k / page_size h.bounce) page
+            (fit.framed (k / page_size h.bounce) (live_counted a m e (k / page_size h.bounce) page (address_meets h.bounce.per_page m.slot m.want.len k fit.some from to))),
+      )
+
   -- ---- one mapping fewer
 
   pub unmapped_fit : (a : ℕ) (m : Streaming) → mapping_of h a ≡ Some m → (first count : ℕ) (after : Space) (counts : List ℕ) → Loses (mapping_holds m) low after
@@ -121,7 +140,6 @@ module _ (h : Held) (low high : Space) (uses : List ℕ) (fit : IsFit h low high
   unmapped_fit a m e first count after counts loses met counted long = record {
     some = fit.some;
     few = fit.few;
-    pages = fit.pages;
     room = fit.room;
     low_first = loses.first ∙ fit.low_first;
     low_end = loses.top ∙ fit.low_end;
@@ -184,7 +202,6 @@ module _ (h : Held) (low high : Space) (uses : List ℕ) (fit : IsFit h low high
   written_fit b s store same frames shared holds size present = record {
     some = (let some = fit.some in let size = same.size in omega arith);
     few = (let few = fit.few in let size = same.size in omega arith);
-    pages = subst (λ n. 0 < n) (sym same.pages) fit.pages;
     room = room_kept h.bounce b same fit.room;
     low_first = fit.low_first ∙ sym same.size;
     low_end = fit.low_end ∙ sym slots;
@@ -205,3 +222,78 @@ module _ (h : Held) (low high : Space) (uses : List ℕ) (fit : IsFit h low high
   } where
     slots : b.per_page * length b.frames ≡ bounce_slots h
     slots = ap (λ g. g * length b.frames) same.size ∙ ap (λ n. h.bounce.per_page * n) same.pages
+
+-- ---- a new domain
+
+zero_at : (n i : ℕ) → slice_index (replicate n 0) i ≡ 0
+zero_at zero i = refl
+zero_at (suc n) zero = refl
+zero_at (suc n) (suc i) = zero_at n i
+
+none_at : (n p : ℕ) → frame_of (replicate n None) p ≡ None
+none_at zero p = refl
+none_at (suc n) zero = refl
+none_at (suc n) (suc p) = none_at n p
+
+long_of : {X : Type 0} (n : ℕ) (v : X) → length (replicate n v) ≡ n
+long_of zero v = refl
+long_of (suc n) v = ap (λ k. suc k) (long_of n v)
+
+nothing_taken : (space : Space) (n made : ℕ) → space.counts ≡ replicate n 0 → AreTaken space made []
+nothing_taken space n made counts = record {
+  each = λ k d below. absurd (omega arith);
+  apart = λ i j d less below. absurd (omega arith);
+  back = λ q any. absurd (let none : taken_at space q ≡ 0 = ap (λ (xs : List ℕ). slice_index xs q) counts ∙ zero_at n q in omega arith);
+}
+
+pub new_fit : (b s : Bounce) (store : Memory) (low high : Space) (uses : List ℕ) (maps : Numbered Bounced) (held : Numbered Extent) (count g slots top : ℕ)
+    → b ≡ record { frames = replicate count None; area = None; user = None; per_page = g }
+    → s ≡ record { frames = replicate (top - slots) None; area = None; user = None; per_page = 1 }
+    → low ≡ record { counts = replicate slots 0; first = g; «end» = slots } → high ≡ record { counts = replicate top 0; first = slots; «end» = top }
+    → uses ≡ replicate count 0 → maps ≡ record { entries = []; made = 0 } → held ≡ record { entries = []; made = 0 }
+    → 0 < g → g ≤ 16 → slots ≡ g * count → slots < top → top ≤ 65536 → Holds s.frames store → store.per_page ≡ 1
+    → IsFit (record { bounce = b; shared = s; store = store; live = mappings_of maps.entries; maps = maps.made; regions = regions_of held.entries; made = held.made; is_shown = false }) low high uses
+new_fit b s store low high uses maps held count g slots top eb es el eh eu em er some few whole less small holds size = record {
+  some = (let e = g_is in omega arith);
+  few = (let e = g_is in omega arith);
+  room = λ u e. absurd (let none : b.user ≡ None = ap (λ (b : Bounce). b.user) eb in some_is_not_none (sym e ∙ none));
+  low_first = ap (λ (t : Space). t.first) el ∙ sym g_is;
+  low_end = ap (λ (t : Space). t.«end») el ∙ sym slots_is;
+  high_first = ap (λ (t : Space). t.first) eh ∙ sym slots_is;
+  high_end = ap (λ (t : Space). t.«end») eh ∙ sym all_is;
+  small = subst (λ n. n ≤ 65536) (sym all_is) small;
+  maps = subst (λ (ms : Numbered Bounced). AreTaken low ms.made (map mapping_holds (mappings_of ms.entries))) (sym em) (nothing_taken low slots 0 (ap (λ (t : Space). t.counts) el));
+  regions = subst (λ (rs : Numbered Extent). AreTaken high rs.made (map region_holds (regions_of rs.entries))) (sym er) (nothing_taken high top 0 (ap (λ (t : Space). t.counts) eh));
+  each = ap length eu ∙ long_of count 0 ∙ sym frames_long;
+  count = λ p below. none_of p ∙ ap (λ (ms : Numbered Bounced). length (filter (meets_page b.per_page p) (mappings_of ms.entries))) (sym em);
+  most = λ p. (let none = none_of p in omega arith);
+  framed = λ p any. absurd (let none = none_of p in omega arith);
+  slots = ap (λ (b : Bounce). b.per_page) es;
+  plain = ap (λ (b : Bounce). b.user) es;
+  store = holds;
+  size = size;
+  shown = λ p. ap (λ u. nat_lt p (length s.frames) && (is_some u || is_some (frame_of s.frames p))) (ap (λ (b : Bounce). b.user) es)
+      ∙ ap (λ o. nat_lt p (length s.frames) && is_some o) (ap (λ (b : Bounce). frame_of b.frames p) es ∙ none_at (top - slots) p) ∙ and_false (nat_lt p (length s.frames))
+      ∙ ap (λ (rs : Numbered Extent). list_any (has_slot (b.per_page * length b.frames + p)) (regions_of rs.entries)) (sym er);
+} where
+  some_is_not_none : {n : ℕ} → Some n ≡ None → ⊥
+  some_is_not_none h = cc
+
+  and_false : (t : Bool) → (t && false) ≡ false
+  and_false true = refl
+  and_false false = refl
+
+  g_is : b.per_page ≡ g
+  g_is = ap (λ (b : Bounce). b.per_page) eb
+
+  frames_long : length b.frames ≡ count
+  frames_long = ap (λ (b : Bounce). length b.frames) eb ∙ long_of count None
+
+  slots_is : b.per_page * length b.frames ≡ slots
+  slots_is = ap (λ n. n * length b.frames) g_is ∙ ap (λ n. g * n) frames_long ∙ sym whole
+
+  all_is : b.per_page * length b.frames + length s.frames ≡ top
+  all_is = ap (λ n. n + length s.frames) slots_is ∙ ap (λ n. slots + n) (ap (λ (b : Bounce). length b.frames) es ∙ long_of (top - slots) None) ∙ (let back : slots + (top - slots) ≡ top = omega arith in back)
+
+  none_of : (p : ℕ) → slice_index uses p ≡ 0
+  none_of p = ap (λ (xs : List ℕ). slice_index xs p) eu ∙ zero_at count p

@@ -1,17 +1,16 @@
 -- The ranges that are taken in a space: one more, one fewer, and the places that they leave.
-use Rattle.std.proofs.Common.{◌≡◌, ◌≢◌, ℕ, zero, suc, ◌+◌, ◌-◌, ◌%◌, ◌<◌, ◌≤◌, ◌⊎◌, inl, inr, refl, subst, ap, sym, ◌∙◌, arith, Bool, true, false, cond, ◌==◌, ◌||◌, ◌&&◌, not, nat_lt, nat_le, if◌then◌else◌, List, [], ◌∷◌, ◌++◌, length, Option, Some, None, filter, find, map, All, get_or, true≢false}
+use Rattle.std.proofs.Common.{◌≡◌, ◌≢◌, ℕ, zero, suc, ◌+◌, ◌%◌, ◌<◌, ◌≤◌, ◌⊎◌, inl, inr, refl, subst, ap, sym, ◌∙◌, arith, Bool, true, false, cond, ◌==◌, ◌||◌, ◌&&◌, not, nat_le, if◌then◌else◌, List, [], ◌∷◌, ◌++◌, Some, None, filter, find, map, All, true≢false}
 use Rattle.std.specs.List.{list_any, AllPairs, slice_index, slice_index_or}
 use Rattle.std.proofs.lemmas.Bool.Decides.{nat_tests, leb_tells, eqb_tells}
 use Rattle.std.proofs.lemmas.Bool.{eqb-true, leb-true}
-use Rattle.std.proofs.lemmas.List.Elements.{All-push, All-weaker, All-filter, All-cons, All-head, All-tail, All-nil}
+use Rattle.std.proofs.lemmas.List.Elements.{All-push, All-weaker, All-filter, All-cons, All-head, All-tail}
 use Rattle.std.proofs.lemmas.List.Kept.{AllPairs-filter}
 use Rattle.std.proofs.lemmas.List.Quantifiers.{all_pairs_push}
 use Rattle.vd_model.specs.Place.{Slots, meets, greatest, is_place, place_of}
 use Rattle.vd_num.specs.Number.{power_from}
-use Rattle.vd_iova.specs.Space.{Space, ranges_from, taken_of, taken_at}
+use Rattle.vd_iova.specs.Space.{Space, taken_of, taken_at}
 use Rattle.vd_iova.proofs.Places.{any_at, any_found}
 use Rattle.vd_domain.specs.Held.{Holding, IsTaken, IsApart, AreTaken}
-use Rattle.vd_domain.proofs.Entries.{found_passes}
 
 -- ---- tests of lists
 

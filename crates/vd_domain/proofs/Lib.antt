@@ -9,11 +9,4 @@ pub mod Present
 pub mod Counts
 pub mod Fits
 pub mod Steps
-pub mod Putting
-pub mod Presence
-pub mod EachFrom
-pub mod InUse
-pub mod AreaActs
-pub mod Undoing
-pub mod Batches
-pub mod Shows
+pub mod Opened

@@ -1,5 +1,5 @@
 -- Which pages are present, after some got frames.
-use Rattle.std.proofs.Common.{◌≡◌, ℕ, suc, ◌+◌, ◌-◌, ◌*◌, ◌/◌, ◌%◌, ◌<◌, ◌≤◌, ◌⊎◌, inl, inr, refl, ap, sym, ◌∙◌, arith, Bool, true, false, ◌&&◌, ◌||◌, nat_lt, List, length, Option, Some, None, true≢false, min}
+use Rattle.std.proofs.Common.{◌≡◌, ℕ, suc, ◌+◌, ◌*◌, ◌/◌, ◌%◌, ◌<◌, ◌≤◌, inl, inr, refl, ap, sym, ◌∙◌, arith, Bool, true, false, ◌&&◌, ◌||◌, nat_lt, length, Option, Some, None, true≢false}
 use Rattle.std.specs.Prelude.{is_some}
 use Rattle.std.specs.Option.{option_map_or}
 use Rattle.std.proofs.lemmas.Bool.Decides.{nat_tests, leb_tells}
@@ -7,9 +7,9 @@ use Rattle.std.proofs.lemmas.List.{get_or_past}
 use Rattle.vd_num.specs.Number.{is_within, pages_of}
 use Rattle.vd_pool.specs.Memory.{Memory, byte_of}
 use Rattle.vd_bounce.specs.Frames.{frame_of}
-use Rattle.vd_bounce.specs.Bounce.{Bounce, Iova, value, page_size, bounce_size, is_present, SameShape}
+use Rattle.vd_bounce.specs.Bounce.{Bounce, Iova, value, page_size, is_present, SameShape}
 use Rattle.std.proofs.Math.Nat.{mul-le-mul_left}
-use Rattle.vd_bounce.proofs.Pages.{split, index_small, page_room}
+use Rattle.vd_bounce.proofs.Pages.{split, index_small}
 use Rattle.vd_domain.specs.Slots.{meets_slots}
 
 turned : (t u w f : Bool) → t ≡ true → (t && (u || (w || f))) ≡ (w || (t && (u || f)))

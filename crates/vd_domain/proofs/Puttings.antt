@@ -1,24 +1,20 @@
 -- The bytes of a device's memory after an act that puts bytes at addresses.
-use Rattle.std.proofs.Common.{◌≡◌, ℕ, zero, suc, ◌+◌, ◌-◌, ◌*◌, ◌/◌, ◌<◌, ◌≤◌, ◌⊎◌, inl, inr, Bool, true, false, refl, subst, ap, sym, ◌∙◌, arith, Option, None, Some, min, nat_le, nat_lt, ◌&&◌, ◌||◌, not, if◌then◌else◌, List, [], ◌∷◌, length, take, length-take, get_or-take, true≢false, get_or}
+use Rattle.std.proofs.Common.{◌≡◌, ℕ, zero, suc, ◌+◌, ◌-◌, ◌*◌, ◌/◌, ◌<◌, ◌≤◌, Bool, true, false, refl, subst, ap, sym, ◌∙◌, arith, Option, None, Some, nat_le, nat_lt, ◌&&◌, if◌then◌else◌, List, [], ◌∷◌, length}
 use Rattle.std.specs.List.{slice_get, slice_index, list_any}
-use Rattle.std.specs.Option.{option_map, option_map_or, option_and_then, unwrap_or}
-use Rattle.std.specs.Prelude.{is_some}
-use Rattle.std.proofs.lemmas.Bool.Decides.{nat_tests, leb_tells}
-use Rattle.std.proofs.lemmas.List.{get_or_past}
+use Rattle.std.specs.Option.{option_map, option_and_then, unwrap_or}
+use Rattle.std.proofs.lemmas.Bool.Decides.{nat_tests}
 use Rattle.std.proofs.lemmas.Option.{slice_get-get_or}
 use Rattle.vd_num.specs.Number.{is_within}
-use Rattle.vd_pool.specs.Memory.{Memory, byte_of}
-use Rattle.vd_bounce.specs.Frames.{frame_of}
+use Rattle.vd_pool.specs.Memory.{Memory}
 use Rattle.vd_bounce.specs.Bounce as b
 use Rattle.vd_bounce.specs.Bounce.{Bounce, Place, value, over, home_by, bounce_size, page_size}
 use Rattle.vd_model.specs.declared.memory.Origin.{Origin}
-use Rattle.vd_model.specs.declared.memory.Origin.TheVariants.{Daemon}
 use Rattle.vd_model.specs.Setting as model
 use Rattle.vd_model.specs.Setting.{Setting}
 use Rattle.vd_model.specs.Acts.{Act, Node, Driver, DriverAct, Daemon_put}
-use Rattle.vd_model.specs.Live.{Registration, registered, live_regions, region_covers, is_present, page_of}
+use Rattle.vd_model.specs.Live.{registered, live_regions, region_covers, is_present, page_of}
 use Rattle.vd_model.specs.Puts.{Cell, Put, Iova, Area, last_put, is_moved, put_or, address_put, address_put_if, address_of, text_at, shown, home}
-use Rattle.vd_domain.specs.Held.{Held, bounce_slots}
+use Rattle.vd_domain.specs.Held.{Held}
 use Rattle.vd_domain.specs.Stands.{Stands, last_byte}
 
 -- the byte that is put, or the one before it
@@ -124,7 +120,6 @@ module _ (x : Setting) (acts : List Act) (h : Held) (m : Memory) (s : Stands x a
   -- ---- one act more that puts bytes at addresses
 
   module _ (act : Act) (way : IsAddressed x.per_page acts act) (new : Held) (n : Memory) where
-
     pub next_bytes : ((a : ℕ) → a < bounce_size h.bounce → is_present x.per_page (act ∷ acts) (page_of x.per_page a) ≡ true → h.bounce.user ≡ None
         → value new.bounce n (b.Iova a) ≡ or_byte (address_put x.per_page (last_put x.per_page acts) acts act a) (last_byte x acts (Iova a)))
         → h.bounce.user ≡ None → (a : ℕ) → a < model.bounce_size x → is_present x.per_page (act ∷ acts) (page_of x.per_page a) ≡ true
@@ -150,7 +145,6 @@ module _ (x : Setting) (acts : List Act) (h : Held) (m : Memory) (s : Stands x a
         → value new.bounce n (b.Area (u + a)) ≡ or_byte (address_put x.per_page (last_put x.per_page acts) acts act a) (value h.bounce m (b.Area (u + a))))
         → long ≤ length (unwrap_or h.bounce.area []) → (o : ℕ) → o < long → value new.bounce n (b.Area o) ≡ last_byte x (act ∷ acts) (Area o)
     next_area long free outside inside fits o below = by h.bounce.user refl where
-
       old : value h.bounce m (b.Area o) ≡ last_byte x acts (Area o)
       old = s.area_bytes o (omega arith)
 

@@ -1,11 +1,11 @@
 -- A range of addresses over the end of bounce memory.
-use Rattle.std.proofs.Common.{◌≡◌, ℕ, zero, suc, ◌+◌, ◌-◌, ◌*◌, ◌/◌, ◌<◌, ◌≤◌, ◌⊎◌, inl, inr, refl, ap, subst, ◌∙◌, sym, arith, Bool, true, false, Option, Some, None, min, nat_lt, List, length, take, drop, ◌++◌, if◌then◌else◌, get_or-take, get_or-drop, length-take, length-drop}
+use Rattle.std.proofs.Common.{◌≡◌, ℕ, zero, suc, ◌+◌, ◌-◌, ◌/◌, ◌<◌, ◌≤◌, inl, inr, refl, ap, ◌∙◌, sym, arith, Bool, true, false, Option, None, min, nat_lt, List, length, take, drop, ◌++◌, if◌then◌else◌, get_or-take, get_or-drop, length-take, length-drop}
 use Rattle.std.proofs.lemmas.Bool.Decides.{nat_tests, leb_tells}
 use Rattle.std.proofs.lemmas.List.{get_or_append_left, get_or-append_right}
 use Rattle.std.specs.List.{slice_index}
 use Rattle.vd_num.specs.Number.{is_within}
 use Rattle.vd_pool.specs.Memory.{Memory}
-use Rattle.vd_bounce.specs.Bounce.{Bounce, Iova, bounce_size, page_size, value, home, is_present}
+use Rattle.vd_bounce.specs.Bounce.{Bounce, bounce_size, page_size, value, home, is_present}
 use Rattle.vd_model.specs.AreaTurns.{first_failing}
 use Rattle.vd_domain.specs.Reached.{is_reached, byte_at}
 use Rattle.vd_domain.proofs.Failing.{up, first_failing_past, first_failing_shifted}

@@ -1,7 +1,7 @@
 -- A domain that stands for some acts, after one act more.
-use Rattle.std.proofs.Common.{◌≡◌, ℕ, zero, suc, ◌+◌, ◌-◌, ◌*◌, ◌/◌, ◌%◌, ◌<◌, ◌≤◌, ◌⊎◌, inl, inr, Bool, true, false, refl, subst, ap, sym, ◌∙◌, arith, Option, None, Some, min, nat_le, nat_lt, ◌&&◌, ◌||◌, not, if◌then◌else◌, ◌==◌, List, [], ◌∷◌, ◌++◌, length, take, length-take, get_or-take, true≢false, All, map, filter, find}
+use Rattle.std.proofs.Common.{◌≡◌, ℕ, zero, suc, ◌+◌, ◌-◌, ◌*◌, ◌/◌, ◌%◌, ◌<◌, ◌≤◌, inl, inr, Bool, true, false, refl, subst, ap, sym, ◌∙◌, arith, Option, None, Some, min, nat_lt, ◌&&◌, ◌||◌, not, if◌then◌else◌, ◌==◌, List, [], ◌∷◌, ◌++◌, length, take, length-take, get_or-take, true≢false, map, filter}
 use Rattle.std.specs.Prelude.{is_some, unwrap_or}
-use Rattle.std.specs.List.{slice_get, slice_index, slice_index_or, list_any}
+use Rattle.std.specs.List.{slice_index, slice_index_or, list_any}
 use Rattle.std.specs.Option.{option_map, option_map_or}
 use Rattle.std.proofs.lemmas.Bool.{eqb-true}
 use Rattle.std.proofs.lemmas.Bool.Decides.{nat_tests, leb_tells}
@@ -11,12 +11,12 @@ use Rattle.vd_bounce.specs.Frames.{frame_of}
 use Rattle.vd_bounce.specs.Bounce as b
 use Rattle.vd_bounce.specs.Bounce.{Bounce, Place, value, over, home_by, bounce_size, page_size, SameShape}
 use Rattle.vd_iova.specs.Space.{Space, taken_of}
-use Rattle.vd_model.specs.declared.memory.Origin.TheVariants.{Daemon, Handed}
+use Rattle.vd_model.specs.declared.memory.Origin.TheVariants.{Daemon}
 use Rattle.vd_model.specs.Setting as model
 use Rattle.vd_model.specs.Setting.{Setting}
 use Rattle.vd_model.specs.Acts.{Act, Node, Driver, Streaming, Coherent, Daemon_put, Mapped, Unmapped}
-use Rattle.vd_model.specs.Live.{registered, live, maps, live_regions, regions, region_covers, is_present, page_of, meets_page, maps_address, iova_of, is_bounce_live, area_len}
-use Rattle.vd_model.specs.Puts.{Cell, Put, Iova, Area, Ram, last_put, ram, ram_bytes, bus_bytes, each_from, shown, text_at, driver_put, or_put, handed_if, zero_if, a_zero, ram_cell, is_to_device}
+use Rattle.vd_model.specs.Live.{live, live_regions, region_covers, is_present, page_of, meets_page, maps_address, iova_of}
+use Rattle.vd_model.specs.Puts.{Put, Iova, last_put, ram, bus_bytes, each_from, shown, text_at, driver_put, or_put, handed_if, zero_if, a_zero, ram_cell, is_to_device}
 use Rattle.vd_model.specs.AreaTurns.{is_accessible, first_bus, first_failing}
 use Rattle.vd_domain.specs.Reached.{is_reached, byte_at}
 use Rattle.vd_domain.specs.Slots.{meets_slots}
@@ -30,7 +30,7 @@ use Rattle.vd_domain.proofs.Failing.{first_failing_same, first_failing_none}
 use Rattle.vd_domain.proofs.Reaches.{low_same, high_same, low_byte, high_byte}
 use Rattle.std.proofs.Math.Nat.{mul-le-mul_left}
 use Rattle.vd_domain.proofs.Present.{held_present, page_below, page_past, absent_zero}
-use Rattle.vd_domain.proofs.Puttings.{or_byte, text_byte, driver_addressed, daemon_addressed, size_is, page_is_of, free_of, moved_to, shown_low, shown_high, next_bytes, next_shared, next_area}
+use Rattle.vd_domain.proofs.Puttings.{or_byte, text_byte, driver_addressed, daemon_addressed, size_is, page_is_of, shown_low, shown_high, next_bytes, next_shared, next_area}
 
 -- ---- lists by their places
 

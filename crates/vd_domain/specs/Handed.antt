@@ -1,5 +1,5 @@
 -- The bytes of a driver's buffer that a mapping hands.
-use Rattle.std.specs.Prelude.{ℕ, List, [], ◌∷◌, ◌≡◌, ◌+◌, ◌-◌, ◌*◌, ◌/◌, Bool, length, take, drop}
+use Rattle.std.specs.Prelude.{ℕ, List, [], ◌∷◌, ◌≡◌, ◌+◌, ◌-◌, ◌*◌, ◌/◌, Bool, take, drop}
 use Rattle.std.specs.List.{list_any}
 use Rattle.vd_num.specs.Number.{pages_of}
 use Rattle.vd_num.specs.declared.number.Range.{Range}

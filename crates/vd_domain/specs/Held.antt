@@ -1,5 +1,5 @@
 -- What contracts see of a domain.
-use Rattle.std.specs.Prelude.{ℕ, ◌+◌, ◌-◌, ◌*◌, ◌/◌, ◌<◌, ◌≤◌, ◌≡◌, ◌≢◌, ◌==◌, nat_lt, if◌then◌else◌, List, [], ◌∷◌, ◌++◌, length, Bool, true, Option, Some, None, is_some, unwrap_or, All, map, find, ◌⊎◌, slice_index, filter}
+use Rattle.std.specs.Prelude.{ℕ, ◌+◌, ◌*◌, ◌<◌, ◌≤◌, ◌≡◌, ◌≢◌, ◌==◌, List, [], length, Bool, true, Option, Some, None, is_some, unwrap_or, All, map, find, ◌⊎◌, slice_index, filter}
 use Rattle.std.specs.List.{list_any, AllPairs}
 use Rattle.vd_num.specs.Number.{pages_of, is_within}
 use Rattle.vd_pool.specs.Memory.{Memory}
@@ -74,7 +74,6 @@ has_slot slot r = is_within r.slot (pages_of r.len) slot
 pub record IsFit (h : Held) (low high : Space) (uses : List ℕ) : Type 0 where
   pub some : 0 < h.bounce.per_page
   pub few : h.bounce.per_page ≤ 16
-  pub pages : 0 < length h.bounce.frames
   pub room : (u : ℕ) → h.bounce.user ≡ Some u → u + bounce_size h.bounce ≤ length (unwrap_or h.bounce.area [])
   pub low_first : low.first ≡ h.bounce.per_page
   pub low_end : low.«end» ≡ bounce_slots h

@@ -6,4 +6,3 @@ pub mod Reached
 pub mod Held
 pub mod Handed
 pub mod Stands
-pub mod Placing

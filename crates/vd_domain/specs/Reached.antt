@@ -1,7 +1,7 @@
 -- What can be accessed in bounce memory and in the coherent memory behind it, and the bytes there.
 use Rattle.std.specs.Prelude.{ℕ, ◌-◌, ◌/◌, ◌^◌, ◌≤◌, Bool, nat_lt, if◌then◌else◌}
 use Rattle.vd_pool.specs.Memory.{Memory}
-use Rattle.vd_bounce.specs.Bounce.{Bounce, Iova, bounce_size, page_size, value, home, is_present}
+use Rattle.vd_bounce.specs.Bounce.{Bounce, bounce_size, page_size, value, home, is_present}
 
 abbrev pub IsSmall : Bounce → Type 0
 IsSmall b = bounce_size b ≤ 2 ^ 48

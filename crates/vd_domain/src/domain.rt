@@ -45,16 +45,16 @@ pub enum SyncError {
 
 /// The memory of a device. It can't be dropped, since each frame has to be given back.
 pub struct Domain {
-    pub(crate) alloc: Global,
-    pub(crate) bounce: BounceMap,
-    pub(crate) shared: BounceMap,
-    pub(crate) store: Pool,
-    pub(crate) low: Iova,
-    pub(crate) high: Iova,
-    pub(crate) mappings: Numbered<Bounced>,
-    pub(crate) regions: Numbered<Extent>,
-    pub(crate) uses: Uses,
-    pub(crate) is_shown: bool,
+    alloc: Global,
+    bounce: BounceMap,
+    shared: BounceMap,
+    store: Pool,
+    low: Iova,
+    high: Iova,
+    mappings: Numbered<Bounced>,
+    regions: Numbered<Extent>,
+    uses: Uses,
+    is_shown: bool,
 }
 
 impl Model for Domain {
@@ -91,7 +91,12 @@ impl Domain {
 
     /// A domain with nothing mapped: so many slots of bounce memory, then coherent memory up to `iova_slots`,
     /// and pages of `per_page` slots.
-    pub fn new(alloc: Global, bounce_slots: u32, iova_slots: u32, per_page: u32) -> Result<Domain, AllocError>
+    pub fn new(
+        alloc: Global,
+        bounce_slots: u32,
+        iova_slots: u32,
+        per_page: u32,
+    ) -> Result<Domain, AllocError>
         requires some { 0 < per_page }
         requires few { per_page ≤ 16 }
         requires whole { bounce_slots ≡ per_page * (bounce_slots / per_page) }
@@ -153,17 +158,13 @@ impl Domain {
             return Err(MapError::Empty);
         }
         let per_page = self.bounce.per_page() as u64;
-        let booked = book(&mut self.low, &mut self.mappings, pool, per_page, want)?;
+        let booked = match book(&mut self.low, &mut self.mappings, pool, per_page, want) {
+            Ok(booked) => booked,
+            Err(error) => return Err(error),
+        };
         self.uses.enter(booked.pages);
         let iova = PAGE_SIZE * booked.slot;
-        show(
-            &mut self.bounce,
-            pool,
-            booked.pages,
-            want.dir,
-            iova,
-            bytes,
-        );
+        show(&mut self.bounce, pool, booked.pages, want.dir, iova, bytes);
         self.is_shown = true;
         Ok(Mapping {
             number: booked.number,
@@ -208,7 +209,8 @@ impl Domain {
             self.bounce.get(pool, PAGE_SIZE * m.slot, out);
         }
         let per_page = self.bounce.per_page() as u64;
-        self.uses.leave(pages_met(m.slot, pages(m.want.len), per_page));
+        self.uses
+            .leave(pages_met(m.slot, pages(m.want.len), per_page));
         self.low.give(m.slot);
         self.mappings.remove(number);
         Ok(())

@@ -7,8 +7,6 @@
 #![tactic(auto)]
 
 mod access;
-mod areas;
-mod batch;
 mod booking;
 mod domain;
 mod numbered;
@@ -16,5 +14,4 @@ mod pages;
 mod streaming;
 mod uses;
 
-pub use areas::AREA_START;
 pub use domain::{Domain, NotLive, SyncError};

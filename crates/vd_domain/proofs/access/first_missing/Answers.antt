@@ -1,9 +1,9 @@
-use Rattle.std.proofs.Common.{◌≡◌, ◌-◌, ◌+◌, ◌<◌, ◌≤◌, ℕ, arith, ap, sym, ◌∙◌, subst, length, min, Some, None, Bool, true, ◌/◌, inl, inr}
+use Rattle.std.proofs.Common.{◌≡◌, ◌-◌, ◌+◌, ◌≤◌, arith, ap, sym, ◌∙◌, min, Some, None, ◌/◌, inl, inr}
 use Rattle.std.proofs.lemmas.Bool.Decides.{leb_tells}
 use Rattle.vd_bounce.specs.Bounce.{bounce_size, is_present, page_size}
 use Rattle.vd_model.specs.AreaTurns.{first_failing}
 use Rattle.vd_domain.specs.Reached.{is_reached}
-use Rattle.vd_domain.proofs.Failing.{first_failing_found, first_failing_same, up}
+use Rattle.vd_domain.proofs.Failing.{first_failing_found, first_failing_same}
 use Rattle.vd_domain.proofs.Reaches.{low_same, before, joined}
 use Rattle.vd_domain.proofs.access.first_missing.Goals as goal
 

@@ -1,4 +1,4 @@
-use Rattle.std.proofs.Common.{◌≡◌, ◌-◌, ◌+◌, ◌<◌, ◌≤◌, ℕ, arith, ap, sym, ◌∙◌, subst, length, min}
+use Rattle.std.proofs.Common.{◌≡◌, ◌-◌, ◌+◌, arith, ap, ◌∙◌, length, min}
 use Rattle.vd_bounce.specs.Bounce.{bounce_size, value, home}
 use Rattle.vd_domain.proofs.Reaches.{high_open, read_is}
 use Rattle.vd_domain.proofs.access.read.Goals as goal

@@ -1,4 +1,4 @@
-use Rattle.std.proofs.Common.{◌≡◌, ◌-◌, ◌+◌, ◌<◌, ◌≤◌, ℕ, arith, ap, sym, ◌∙◌, subst, length, min, take, drop, List, refl, length-take, length-drop}
+use Rattle.std.proofs.Common.{◌≡◌, ◌-◌, ℕ, arith, ap, ◌∙◌, length, min, take, drop, List, refl, length-take, length-drop}
 use Rattle.vd_bounce.specs.Bounce.{Iova, bounce_size, value, over, home_by}
 use Rattle.vd_domain.proofs.Reaches.{high_open, written_behind}
 use Rattle.vd_domain.proofs.access.write.Goals as goal

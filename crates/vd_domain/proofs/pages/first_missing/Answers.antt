@@ -1,9 +1,8 @@
-use Rattle.std.proofs.Common.{◌≡◌, ℕ, ◌+◌, ◌-◌, ◌*◌, ◌/◌, ◌%◌, ◌<◌, ◌≤◌, Bool, true, false, arith, ap, subst, sym, ◌∙◌, ◌⊎◌, inl, inr, length}
+use Rattle.std.proofs.Common.{◌≡◌, ℕ, ◌+◌, ◌-◌, ◌*◌, ◌/◌, ◌%◌, ◌<◌, ◌≤◌, Bool, true, false, arith, ap, subst, sym, ◌∙◌, inl, inr, length}
 use Rattle.std.proofs.lemmas.Grind.{common_steps}
 use Rattle.std.proofs.lemmas.Bool.Decides.{leb_tells}
 use Rattle.vd_bounce.specs.Bounce.{is_present, page_size}
 use Rattle.vd_bounce.proofs.Pages.{split, page_room, index_small}
-use Rattle.vd_model.specs.AreaTurns.{first_failing}
 use Rattle.vd_domain.proofs.Failing.{first_failing_here, first_failing_past, same_page}
 use Rattle.vd_domain.proofs.pages.first_missing.Goals as goal
 use Rattle.vd_domain.proofs.pages.first_missing.Goals.{then-page-count-via-then-page-count, then-page-count-via-else-page-count+then-not-present}

@@ -1,4 +1,4 @@
-use Rattle.std.proofs.Common.{◌≡◌, ℕ, ◌/◌, ◌+◌, ◌*◌, ◌≤◌, ◌<◌, length, true}
+use Rattle.std.proofs.Common.{◌≡◌, ℕ, ◌/◌, ◌+◌, ◌≤◌, ◌<◌, true}
 use Rattle.vd_model.specs.AreaTurns.{first_failing}
 use Rattle.vd_bounce.specs.Bounce.{page_size, bounce_size, is_present}
 use Rattle.vd_domain.proofs.pages.first_missing.Given as goal

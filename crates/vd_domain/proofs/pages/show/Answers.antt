@@ -1,4 +1,4 @@
-use Rattle.std.proofs.Common.{◌≡◌, ◌+◌, ◌*◌, ◌/◌, ◌<◌, ◌≤◌, ℕ, arith, ap, sym, ◌∙◌, subst, length, ◌||◌, true}
+use Rattle.std.proofs.Common.{◌≡◌, ◌*◌, ◌/◌, ◌<◌, arith, ap, ◌∙◌, length, ◌||◌, true}
 use Rattle.vd_bounce.specs.Bounce.{is_present, page_size}
 use Rattle.vd_num.specs.Number.{is_within}
 use Rattle.vd_bounce.proofs.Pages.{within_high}

@@ -1,4 +1,4 @@
-use Rattle.std.proofs.Common.{◌≡◌, ap, sym, ◌∙◌, ℕ, find, ◌==◌}
+use Rattle.std.proofs.Common.{ap, ◌∙◌, ℕ, find, ◌==◌}
 use Rattle.std.specs.Option.{option_map}
 use Rattle.vd_domain.specs.Numbered.{Numbered}
 use Rattle.vd_domain.proofs.Rising.{looked_up}

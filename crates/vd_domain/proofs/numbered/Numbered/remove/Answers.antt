@@ -1,4 +1,4 @@
-use Rattle.std.proofs.Common.{◌≡◌, ap, sym, subst, ◌∙◌, ℕ, List, filter, ◌==◌, not}
+use Rattle.std.proofs.Common.{ap, sym, subst, ◌∙◌, ℕ, List, filter, ◌==◌, not}
 use Rattle.vd_domain.specs.Numbered.{Numbered, IsRising}
 use Rattle.vd_domain.proofs.Rising.{removed, rising_fewer}
 use Rattle.vd_domain.proofs.numbered.Numbered.remove.Goals as goal
