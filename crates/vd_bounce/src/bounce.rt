@@ -112,6 +112,7 @@ impl BounceMap {
         ensures bytes { (x : Place) → value self.new pool.new x ≡ over (home self.old at) bytes.now x (value self.old pool.old x) }
         ensures present { (p : ℕ) → is_present self.new p ≡ is_present self.old p }
         ensures frames { self.new.frames ≡ self.old.frames }
+        ensures spare { pool.new.spare ≡ pool.old.spare }
         ensures same { SameShape self.old self.new }
     {
         if bytes.is_empty() {

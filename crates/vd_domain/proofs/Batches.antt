@@ -1,5 +1,5 @@
 -- Wants that are given places one after another.
-use Rattle.std.proofs.Common.{◌≡◌, ℕ, ◌+◌, ◌*◌, ◌/◌, ◌%◌, ◌<◌, ◌≤◌, refl, subst, ap, sym, ◌∙◌, arith, Bool, true, false, true≢false, ◌||◌, ◌==◌, if◌then◌else◌, List, [], ◌∷◌, ◌++◌, length, Option, Some, None, Result, Ok, Err, ◌-◌, min, map}
+use Rattle.std.proofs.Common.{◌≡◌, ℕ, suc, ◌+◌, ◌*◌, ◌/◌, ◌%◌, ◌<◌, ◌≤◌, refl, subst, ap, sym, ◌∙◌, arith, Bool, true, false, true≢false, ◌||◌, ◌==◌, if◌then◌else◌, List, [], ◌∷◌, ◌++◌, length, Option, Some, None, Result, Ok, Err, ◌-◌, min, map}
 use Rattle.std.proofs.lemmas.Bool.Decides.{nat_tests}
 use Rattle.std.specs.List.{list_any}
 use Rattle.std.specs.Option.{option_map}
@@ -13,7 +13,9 @@ use Rattle.vd_model.specs.Place.{Slots, place_of, meets}
 use Rattle.vd_model.specs.RingTurns.{placed, placed_at}
 use Rattle.vd_domain.specs.declared.booking.Booked.{Booked}
 use Rattle.vd_domain.specs.Held.{Holding, AreTaken, mapping_holds}
-use Rattle.vd_domain.specs.Placing.{IsGiven, AreGiven, IsSeen, streamings}
+use Rattle.vd_domain.specs.declared.streaming.Bounced.{Bounced}
+use Rattle.vd_domain.specs.Lists.{mapping_at, mappings_of}
+use Rattle.vd_domain.specs.Placing.{IsGiven, AreGiven, IsSeen, streamings, entries_of}
 use Rattle.vd_domain.proofs.Holdings.{Gains, taken_more, meets_are, place_same, place_clear, any_more}
 
 pub pages_some : (len : ℕ) → 0 < len → 0 < pages_of len
@@ -82,3 +84,46 @@ err_use (Err f) P e h = h
 pub err_given : {A E : Type 0} (r : Result A E) (P : Type 0) → P → OnErr r P
 err_given (Ok a) P h = tt
 err_given (Err f) P h = h
+
+pub rest_some : (want : Want) (wants : List Want) → list_any (λ (w : Want). w.len == 0) (want ∷ wants) ≡ false → list_any (λ (w : Want). w.len == 0) wants ≡ false
+rest_some want wants e = by (want.len == 0) e where
+  by : (t : Bool) → (t || list_any (λ (w : Want). w.len == 0) wants) ≡ false → list_any (λ (w : Want). w.len == 0) wants ≡ false
+  by true e = absurd (true≢false e)
+  by false e = e
+
+-- where each was given what it has, that is where they are placed
+pub all_placed : (x : Setting) (g : ℕ) (low after : Space) (made : ℕ) (holds : List Holding) (held : List Slots) (wants : List Want) (bs : List Booked)
+    → x.per_page ≡ low.first → x.bounce ≡ low.«end» → AreTaken low made holds → IsSeen low holds held → list_any (λ (w : Want). w.len == 0) wants ≡ false
+    → AreGiven g low made wants bs after → placed x held made wants ≡ Some (streamings wants bs)
+all_placed x g low after made holds held [] [] pp bb taken seen none given = refl
+all_placed x g low after made holds held [] (b ∷ bs) pp bb taken seen none given = absurd given
+all_placed x g low after made holds held (want ∷ wants) [] pp bb taken seen none given = absurd given
+all_placed x g low after made holds held (want ∷ wants) (b ∷ bs) pp bb taken seen none given =
+    let some : 0 < want.len = first_some want wants none in
+    let rest : list_any (λ (w : Want). w.len == 0) wants ≡ false = rest_some want wants none in
+    placed_next x low made holds held pp bb taken seen g want b given.0 given.1 some wants
+    ∙ ap (λ (o : Option (List Streaming)). option_map (λ ms. record { number = made; slot = b.slot; want = want } ∷ ms) o)
+    (all_placed x g given.0 after (made + 1) (holds ++ holding_of want b ∷ []) (held ++ record { start = b.slot; count = pages_of want.len } ∷ []) wants bs
+    (pp ∙ sym given.1.first) (bb ∙ sym given.1.top)
+    (taken_next x low made holds held pp bb taken seen g want b given.0 given.1 some)
+    (seen_next x low made holds held pp bb taken seen g want b given.0 given.1 some) rest given.2)
+    ∙ ap (λ (k : ℕ). Some (record { number = k; slot = b.slot; want = want } ∷ streamings wants bs)) (sym given.1.number)
+
+pub given_long : (g : ℕ) (low after : Space) (made : ℕ) (wants : List Want) (bs : List Booked) → AreGiven g low made wants bs after → length (streamings wants bs) ≡ length wants
+given_long g low after made [] [] given = refl
+given_long g low after made [] (b ∷ bs) given = absurd given
+given_long g low after made (want ∷ wants) [] given = absurd given
+given_long g low after made (want ∷ wants) (b ∷ bs) given = ap (λ k. suc k) (given_long g given.0 after (made + 1) wants bs given.2)
+
+given_mapped : (wants : List Want) (bs : List Booked) → mappings_of (entries_of wants bs) ≡ streamings wants bs
+given_mapped [] bs = refl
+given_mapped (want ∷ wants) [] = refl
+given_mapped (want ∷ wants) (b ∷ bs) = ap (λ (ms : List Streaming). record { number = b.number; slot = b.slot; want = want } ∷ ms) (given_mapped wants bs)
+
+-- the mappings that are live with the new ones
+pub all_mapped : (es : List (ℕ × Bounced)) (wants : List Want) (bs : List Booked) → mappings_of (es ++ entries_of wants bs) ≡ mappings_of es ++ streamings wants bs
+all_mapped [] wants bs = given_mapped wants bs
+all_mapped (e ∷ es) wants bs = ap (λ (ms : List Streaming). mapping_at e ∷ ms) (all_mapped es wants bs)
+
+pub some_same : {A : Type 0} {a b : A} → Some a ≡ Some b → a ≡ b
+some_same e = cc

@@ -51,6 +51,7 @@ module _ (h : Held) (low high : Space) (uses : List ℕ) (fit : IsFit h low high
   mapped_fit m first count b after counts number some same gains met frames counted long = record {
     some = (let some = fit.some in let size = same.size in omega arith);
     few = (let few = fit.few in let size = same.size in omega arith);
+    pages = subst (λ n. 0 < n) (sym same.pages) fit.pages;
     room = room_kept h.bounce b same fit.room;
     low_first = gains.first ∙ fit.low_first ∙ sym same.size;
     low_end = gains.top ∙ fit.low_end ∙ sym slots;
@@ -140,6 +141,7 @@ module _ (h : Held) (low high : Space) (uses : List ℕ) (fit : IsFit h low high
   unmapped_fit a m e first count after counts loses met counted long = record {
     some = fit.some;
     few = fit.few;
+    pages = fit.pages;
     room = fit.room;
     low_first = loses.first ∙ fit.low_first;
     low_end = loses.top ∙ fit.low_end;
@@ -202,6 +204,7 @@ module _ (h : Held) (low high : Space) (uses : List ℕ) (fit : IsFit h low high
   written_fit b s store same frames shared holds size present = record {
     some = (let some = fit.some in let size = same.size in omega arith);
     few = (let few = fit.few in let size = same.size in omega arith);
+    pages = subst (λ n. 0 < n) (sym same.pages) fit.pages;
     room = room_kept h.bounce b same fit.room;
     low_first = fit.low_first ∙ sym same.size;
     low_end = fit.low_end ∙ sym slots;
@@ -251,11 +254,12 @@ pub new_fit : (b s : Bounce) (store : Memory) (low high : Space) (uses : List �
     → s ≡ record { frames = replicate (top - slots) None; area = None; user = None; per_page = 1 }
     → low ≡ record { counts = replicate slots 0; first = g; «end» = slots } → high ≡ record { counts = replicate top 0; first = slots; «end» = top }
     → uses ≡ replicate count 0 → maps ≡ record { entries = []; made = 0 } → held ≡ record { entries = []; made = 0 }
-    → 0 < g → g ≤ 16 → slots ≡ g * count → slots < top → top ≤ 65536 → Holds s.frames store → store.per_page ≡ 1
+    → 0 < g → g ≤ 16 → slots ≡ g * count → 0 < slots → slots < top → top ≤ 65536 → Holds s.frames store → store.per_page ≡ 1
     → IsFit (record { bounce = b; shared = s; store = store; live = mappings_of maps.entries; maps = maps.made; regions = regions_of held.entries; made = held.made; is_shown = false }) low high uses
-new_fit b s store low high uses maps held count g slots top eb es el eh eu em er some few whole less small holds size = record {
+new_fit b s store low high uses maps held count g slots top eb es el eh eu em er some few whole any less small holds size = record {
   some = (let e = g_is in omega arith);
   few = (let e = g_is in omega arith);
+  pages = subst (λ n. 0 < n) (sym frames_long) (pos count (sym whole));
   room = λ u e. absurd (let none : b.user ≡ None = ap (λ (b : Bounce). b.user) eb in some_is_not_none (sym e ∙ none));
   low_first = ap (λ (t : Space). t.first) el ∙ sym g_is;
   low_end = ap (λ (t : Space). t.«end») el ∙ sym slots_is;
@@ -276,6 +280,10 @@ new_fit b s store low high uses maps held count g slots top eb es el eh eu em er
       ∙ ap (λ o. nat_lt p (length s.frames) && is_some o) (ap (λ (b : Bounce). frame_of b.frames p) es ∙ none_at (top - slots) p) ∙ and_false (nat_lt p (length s.frames))
       ∙ ap (λ (rs : Numbered Extent). list_any (has_slot (b.per_page * length b.frames + p)) (regions_of rs.entries)) (sym er);
 } where
+  pos : (k : ℕ) → g * k ≡ slots → 0 < k
+  pos zero e = absurd (omega (arith, e, any))
+  pos (suc k) e = omega arith
+
   some_is_not_none : {n : ℕ} → Some n ≡ None → ⊥
   some_is_not_none h = cc
 

@@ -10,3 +10,11 @@ pub mod Counts
 pub mod Fits
 pub mod Steps
 pub mod Opened
+pub mod Putting
+pub mod Presence
+pub mod EachFrom
+pub mod InUse
+pub mod AreaActs
+pub mod Undoing
+pub mod Batches
+pub mod Shows

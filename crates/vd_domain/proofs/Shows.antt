@@ -14,14 +14,16 @@ use Rattle.vd_model.specs.Acts.{Act, Driver, Mapped, Streaming}
 use Rattle.vd_model.specs.Puts.{is_to_device}
 use Rattle.vd_model.specs.RingTurns.{map_acts}
 use Rattle.vd_domain.specs.declared.booking.Booked.{Booked}
-use Rattle.vd_domain.specs.Held.{Held, IsFit, bounce_slots}
+use Rattle.vd_domain.specs.Held.{Held, IsFit, bounce_slots, mapping_holds}
 use Rattle.vd_domain.specs.Handed.{IsOf, AreOf}
 use Rattle.vd_domain.specs.Stands.{Stands}
-use Rattle.vd_domain.specs.Placing.{IsGiven, AreGiven, streamings, shown}
+use Rattle.vd_domain.specs.Placing.{IsGiven, AreGiven, IsSeen, streamings, shown}
 use Rattle.vd_domain.proofs.Batches.{pages_some, gains_of}
 use Rattle.vd_domain.proofs.Fits.{mapped_fit}
 use Rattle.vd_domain.proofs.Present.{address_meets}
-use Rattle.vd_domain.proofs.Steps.{mapped}
+use Rattle.vd_domain.proofs.Holdings.{meets_are}
+use Rattle.vd_domain.proofs.Steps.{mapped, meets_same}
+use Rattle.vd_model.specs.Place.{taken}
 
 -- what was the bounce memory doesn't matter
 pub shown_any : (h : Held) (c b : Bounce) (ms : List Streaming) → shown (record h { bounce = c }) b ms ≡ shown h b ms
@@ -71,12 +73,6 @@ module _ (h : Held) (low high next : Space) (uses : List ℕ) (fit : IsFit h low
     stands_next x acts m n text s is long values =
         mapped x acts h m s low high uses fit (mapping_given want b) text is long slots_end c n b.pages.first b.pages.count given.number same given.pages frames values
 
-pub rest_some : (want : Want) (wants : List Want) → list_any (λ (w : Want). w.len == 0) (want ∷ wants) ≡ false → list_any (λ (w : Want). w.len == 0) wants ≡ false
-rest_some want wants e = by (want.len == 0) e where
-  by : (t : Bool) → (t || list_any (λ (w : Want). w.len == 0) wants) ≡ false → list_any (λ (w : Want). w.len == 0) wants ≡ false
-  by true e = absurd (true≢false e)
-  by false e = e
-
 -- ---- the first of some wants, where the bounce memory is known by another name
 
 module _ (h : Held) (old : Bounce) (named : h.bounce ≡ old) (low high after : Space) (uses : List ℕ) (fit : IsFit h low high uses) (want : Want) (wants : List Want) (b : Booked) (bs : List Booked)
@@ -115,3 +111,18 @@ module _ (h : Held) (old : Bounce) (named : h.bounce ≡ old) (low high after : 
       (shown_any (record h { live = h.live ++ mapping_given want b ∷ []; maps = h.maps + 1; is_shown = true }) c d (streamings wants bs))
       (subst (λ (done : List Act). Stands x done (shown (one_more h c (mapping_given want b)) d (streamings wants bs)) n)
       (sym (append_assoc (map_acts (streamings wants bs)) (Driver (Mapped (mapping_given want b)) ∷ []) acts)) s)
+
+-- all of them at once
+pub shown_is : (h : Held) (b : Bounce) (ms : List Streaming) → 0 < length ms → shown h b ms ≡ record h { bounce = b; live = h.live ++ ms; maps = h.maps + length ms; is_shown = true }
+shown_is h b [] some = absurd (omega (arith, some))
+shown_is h b (m ∷ []) some = refl
+shown_is h b (m ∷ k ∷ ms) some =
+    shown_is (record h { live = h.live ++ m ∷ []; maps = h.maps + 1; is_shown = true }) b (k ∷ ms) (omega arith)
+    ∙ ap (λ (l : List Streaming). record h { bounce = b; live = l; maps = h.maps + 1 + length (k ∷ ms); is_shown = true }) (append_assoc h.live (m ∷ []) (k ∷ ms))
+    ∙ ap (λ (n : ℕ). record h { bounce = b; live = h.live ++ m ∷ k ∷ ms; maps = n; is_shown = true }) (let sum : h.maps + 1 + length (k ∷ ms) ≡ h.maps + length (m ∷ k ∷ ms) = omega arith in sum)
+
+-- what is held by the acts is what is held in the space
+pub seen_of : (x : Setting) (acts : List Act) (h : Held) (m : Memory) (low high : Space) (uses : List ℕ) → Stands x acts h m → IsFit h low high uses → IsSeen low (map mapping_holds h.live) (taken acts)
+seen_of x acts h m low high uses s fit start n below above =
+    sym (meets_same x acts h m s low high uses fit n start (subst (λ k. k ≤ start) (fit.low_first ∙ sym s.per_page) below) (subst (λ k. start + n ≤ k) (fit.low_end ∙ sym s.bounce) above))
+    ∙ meets_are low h.maps (map mapping_holds h.live) fit.maps start n

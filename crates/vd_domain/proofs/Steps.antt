@@ -226,41 +226,45 @@ module _ (x : Setting) (acts : List Act) (h : Held) (m : Memory) (s : Stands x a
 
   -- ---- places
 
+  -- the slots that are taken, by the space and by the acts
+  pub meets_same : (n k : ℕ) → x.per_page ≤ k → k + n ≤ x.bounce → list_any (meets k n) (taken_of low) ≡ list_any (meets k n) (taken acts)
+  meets_same n = agree where
+    region_off : (k : ℕ) → k + n ≤ x.bounce → list_any (meets k n) (map region_slots (live_regions acts)) ≡ false
+    region_off k top =
+        ap (λ (rs : List Coherent). list_any (meets k n) (map region_slots rs)) (sym s.regions)
+        ∙ any_map region_slots (meets k n) (λ r. meets k n (region_slots r)) (λ r. refl) h.regions
+        ∙ sym (any_map region_holds (λ (g : Holding). meets k n (slots_of g)) (λ r. meets k n (region_slots r)) (λ r. refl) h.regions)
+        ∙ any_none (λ (g : Holding). meets k n (slots_of g)) (map region_holds h.regions) (λ i d below. off (slice_index_or (map region_holds h.regions) i d) (fit.regions.each i d below)) where
+          off : (g : Holding) → IsTaken high h.made g → meets k n (slots_of g) ≡ false
+          off g t =
+              let first = t.low in
+              let at = fit.high_first in
+              let bounce = s.bounce in
+              let under : k + n ≤ g.slot = omega arith in
+              two (nat_lt k (g.slot + g.count)) g.slot (k + n) under where
+                two : (b : Bool) (i j : ℕ) → j ≤ i → (b && nat_lt i j) ≡ false
+                two true i j le = grind (arith, nat_tests)
+                two false i j le = refl
+
+    or_false : (t : Bool) → (t || false) ≡ t
+    or_false true = refl
+    or_false false = refl
+
+    agree : (k : ℕ) → x.per_page ≤ k → k + n ≤ x.bounce → list_any (meets k n) (taken_of low) ≡ list_any (meets k n) (taken acts)
+    agree k above top =
+        meets_are low h.maps (map mapping_holds h.live) fit.maps k n
+        ∙ any_map mapping_holds (λ (g : Holding). meets k n (slots_of g)) (λ m. meets k n (mapping_slots m)) (λ m. refl) h.live
+        ∙ ap (λ (l : List Streaming). list_any (λ m. meets k n (mapping_slots m)) l) s.live
+        ∙ sym (any_map mapping_slots (meets k n) (λ m. meets k n (mapping_slots m)) (λ m. refl) (live acts))
+        ∙ sym (or_false (list_any (meets k n) (map mapping_slots (live acts))))
+        ∙ ap (λ t. list_any (meets k n) (map mapping_slots (live acts)) || t) (sym (region_off k top))
+        ∙ sym (any_more (meets k n) (map mapping_slots (live acts)) (map region_slots (live_regions acts)))
+
   pub low_place : (n : ℕ) → place_of (taken_of low) n low.first low.«end» ≡ place_of (taken acts) n x.per_page x.bounce
   low_place n =
       ap (λ k. place_of (taken_of low) n k low.«end») (fit.low_first ∙ sym s.per_page)
       ∙ ap (λ k. place_of (taken_of low) n x.per_page k) (fit.low_end ∙ sym s.bounce)
-      ∙ place_same (taken_of low) (taken acts) n x.per_page x.bounce agree where
-        region_off : (k : ℕ) → k + n ≤ x.bounce → list_any (meets k n) (map region_slots (live_regions acts)) ≡ false
-        region_off k top =
-            ap (λ (rs : List Coherent). list_any (meets k n) (map region_slots rs)) (sym s.regions)
-            ∙ any_map region_slots (meets k n) (λ r. meets k n (region_slots r)) (λ r. refl) h.regions
-            ∙ sym (any_map region_holds (λ (g : Holding). meets k n (slots_of g)) (λ r. meets k n (region_slots r)) (λ r. refl) h.regions)
-            ∙ any_none (λ (g : Holding). meets k n (slots_of g)) (map region_holds h.regions) (λ i d below. off (slice_index_or (map region_holds h.regions) i d) (fit.regions.each i d below)) where
-              off : (g : Holding) → IsTaken high h.made g → meets k n (slots_of g) ≡ false
-              off g t =
-                  let first = t.low in
-                  let at = fit.high_first in
-                  let bounce = s.bounce in
-                  let under : k + n ≤ g.slot = omega arith in
-                  two (nat_lt k (g.slot + g.count)) g.slot (k + n) under where
-                    two : (b : Bool) (i j : ℕ) → j ≤ i → (b && nat_lt i j) ≡ false
-                    two true i j le = grind (arith, nat_tests)
-                    two false i j le = refl
-
-        or_false : (t : Bool) → (t || false) ≡ t
-        or_false true = refl
-        or_false false = refl
-
-        agree : (k : ℕ) → x.per_page ≤ k → k + n ≤ x.bounce → list_any (meets k n) (taken_of low) ≡ list_any (meets k n) (taken acts)
-        agree k above top =
-            meets_are low h.maps (map mapping_holds h.live) fit.maps k n
-            ∙ any_map mapping_holds (λ (g : Holding). meets k n (slots_of g)) (λ m. meets k n (mapping_slots m)) (λ m. refl) h.live
-            ∙ ap (λ (l : List Streaming). list_any (λ m. meets k n (mapping_slots m)) l) s.live
-            ∙ sym (any_map mapping_slots (meets k n) (λ m. meets k n (mapping_slots m)) (λ m. refl) (live acts))
-            ∙ sym (or_false (list_any (meets k n) (map mapping_slots (live acts))))
-            ∙ ap (λ t. list_any (meets k n) (map mapping_slots (live acts)) || t) (sym (region_off k top))
-            ∙ sym (any_more (meets k n) (map mapping_slots (live acts)) (map region_slots (live_regions acts)))
+      ∙ place_same (taken_of low) (taken acts) n x.per_page x.bounce (meets_same n)
 
   -- ---- a daemon's write
 

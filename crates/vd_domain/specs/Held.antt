@@ -74,6 +74,7 @@ has_slot slot r = is_within r.slot (pages_of r.len) slot
 pub record IsFit (h : Held) (low high : Space) (uses : List ℕ) : Type 0 where
   pub some : 0 < h.bounce.per_page
   pub few : h.bounce.per_page ≤ 16
+  pub pages : 0 < length h.bounce.frames
   pub room : (u : ℕ) → h.bounce.user ≡ Some u → u + bounce_size h.bounce ≤ length (unwrap_or h.bounce.area [])
   pub low_first : low.first ≡ h.bounce.per_page
   pub low_end : low.«end» ≡ bounce_slots h

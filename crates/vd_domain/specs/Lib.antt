@@ -6,3 +6,4 @@ pub mod Reached
 pub mod Held
 pub mod Handed
 pub mod Stands
+pub mod Placing

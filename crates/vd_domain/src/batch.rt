@@ -1,13 +1,14 @@
 //! Several mappings, all of them or none.
 
-ghost use Rattle.std.specs.Prelude.{◌≡◌, ◌≢◌, ◌+◌, ◌<◌, ◌≤◌, ◌^◌, ◌++◌, ◌==◌, ℕ, List, length, false, None, OnOk, OnErr};
+ghost use Rattle.std.specs.Prelude.{◌≡◌, ◌≢◌, ◌+◌, ◌<◌, ◌≤◌, ◌^◌, ◌++◌, ◌==◌, ℕ, List, length, ◌↔◌, true, false, is_some, Some, None, IfOk, OnOk, OnErr};
 ghost use Rattle.std.specs.List.{list_any};
 ghost use Rattle.vd_pool.specs.Memory.{Grows};
 ghost use Rattle.vd_iova.specs.Space.{Space};
 ghost use Rattle.vd_bounce.specs.Frames.{Holds, Keeps};
 ghost use Rattle.vd_model.specs.Setting.{Setting};
-ghost use Rattle.vd_model.specs.Place.{Slots};
-ghost use Rattle.vd_model.specs.Acts.{Act};
+ghost use Rattle.vd_model.specs.Live.{maps};
+ghost use Rattle.vd_model.specs.Place.{Slots, taken};
+ghost use Rattle.vd_model.specs.Acts.{Act, Streaming};
 ghost use Rattle.vd_model.specs.RingTurns.{placed, map_acts};
 ghost use Rattle.vd_domain.specs.Held.{Held, IsFit, Holding, AreTaken};
 ghost use Rattle.vd_domain.specs.Handed.{AreOf, bytes_of};
@@ -15,8 +16,9 @@ ghost use Rattle.vd_domain.specs.Placing.{AreGiven, IsSeen, IsReady, shown, stre
 ghost use Rattle.vd_domain.specs.Stands.{Stands};
 
 use crate::booking::{Booked, book};
+use crate::domain::Domain;
 use crate::numbered::Numbered;
-use crate::pages::show;
+use crate::pages::{Pages, show};
 use crate::streaming::Bounced;
 use crate::uses::Uses;
 use vd_bounce::BounceMap;
@@ -24,6 +26,67 @@ use vd_iova::Iova;
 use vd_model::{MapError, Want};
 use vd_num::PAGE_SIZE;
 use vd_pool::Pool;
+
+/// Nothing is booked.
+const NOTHING: Booked = Booked {
+    number: 0,
+    slot: 0,
+    pages: Pages {
+        first: 0,
+        count: 0,
+    },
+};
+
+impl Domain {
+    ghost use Rattle.vd_domain.specs.Stands.{Stands};
+
+    /// Maps ranges of buffers in order, all of them or none; `bytes` are the ranges one after another. It answers
+    /// the first number, and the others follow it.
+    pub fn map_all(&mut self, pool: &mut Pool, wants: &[Want], bytes: &[u8]) -> Result<u64, MapError>
+        requires holds { Holds self.old.bounce.frames pool.old }
+        requires size { pool.old.per_page ≡ self.old.bounce.per_page }
+        requires some { 0 < length wants.now }
+        requires text { length bytes.now ≡ bytes_of wants.now }
+        requires made { self.old.maps + length wants.now < 2 ^ 62 }
+        ensures kept { Keeps self.old.bounce.frames self.new.bounce.frames pool.old pool.new }
+        ensures ok { (x : Setting) (acts : List Act) (ms : List Streaming) → Stands x acts self.old pool.old → AreOf x.per_page acts wants.now bytes.now
+            → placed x (taken acts) (maps acts) wants.now ≡ Some ms → OnOk result (Stands x (map_acts ms ++ acts) self.new pool.new) }
+        ensures place { (x : Setting) (acts : List Act) → Stands x acts self.old pool.old → IfOk result (λ n.
+            (n ≡ maps acts) × (is_some (placed x (taken acts) (maps acts) wants.now) ≡ true)) }
+        ensures full { (x : Setting) (acts : List Act) → Stands x acts self.old pool.old → result ≡ Err MapError.NoSpace
+            → placed x (taken acts) (maps acts) wants.now ≡ None }
+        ensures empty { result ≡ Err MapError.Empty ↔ (list_any (λ w. w.len == 0) wants.now ≡ true) }
+        ensures err { (x : Setting) (acts : List Act) → Stands x acts self.old pool.old → OnErr result (Stands x acts self.new pool.new) }
+        ensures same { OnErr result (self.new ≡ self.old) }
+        ensures counts { (self.new.maps ≤ self.old.maps + length wants.now) × (self.new.made ≡ self.old.made) }
+        ensures page { self.new.bounce.per_page ≡ self.old.bounce.per_page }
+    {
+        if has_empty(wants) {
+            return Err(MapError::Empty);
+        }
+        let mut booked = match vec![in self.alloc; NOTHING; wants.len()] {
+            Ok(booked) => booked,
+            Err(_) => return Err(MapError::Memory),
+        };
+        let first = self.mappings.made();
+        let per_page = self.bounce.per_page() as u64;
+        let low = &mut self.low;
+        match book_all(low, &mut self.mappings, pool, per_page, wants, &mut booked, 0) {
+            Ok(()) => {}
+            Err(error) => return Err(error),
+        }
+        show_all(&mut self.bounce, &mut self.uses, pool, wants, &booked, bytes);
+        self.is_shown = true;
+        Ok(first)
+    }
+}
+
+/// Whether a want has no bytes.
+fn has_empty(wants: &[Want]) -> bool
+    ensures { result ≡ list_any (λ w. w.len == 0) wants.now }
+{
+    wants.iter().any(|want| want.len == 0)
+}
 
 /// Books the wants in order, all of them or none, and sees that the pool has `frames` frames and one for each
 /// page that they meet.

@@ -1,6 +1,6 @@
 //! A place, a number and frames for a mapping, all of them or none.
 
-ghost use Rattle.std.specs.Prelude.{◌≡◌, ◌+◌, ◌*◌, ◌<◌, ◌≤◌, ◌^◌, ◌++◌, ◌∷◌, [], ◌==◌, ℕ, Some, None, if◌then◌else◌, IfOk, IfSome, IfNone, OnErr, MatchResult, ◌≢◌};
+ghost use Rattle.std.specs.Prelude.{◌≡◌, ◌+◌, ◌*◌, ◌<◌, ◌≤◌, ◌^◌, ◌++◌, ◌∷◌, [], ◌==◌, ℕ, Some, None, if◌then◌else◌, IfOk, IfSome, IfNone, OnErr, MatchResult, ◌≢◌, slice_set};
 ghost use Rattle.vd_num.specs.Number.{pages_of, is_within};
 ghost use Rattle.vd_pool.specs.Memory.{Grows};
 ghost use Rattle.vd_iova.specs.Space.{taken_of, taken_at};
@@ -41,6 +41,7 @@ pub fn book(
         (λ e. e ≡ MapError.NoSpace → None ≡ place_of (taken_of low.old) (pages_of want.len) low.old.first low.old.«end») }
     ensures full { result ≢ Err MapError.Empty }
     ensures taken { IfOk result (λ b. (taken_at low.old b.slot ≡ 0) × ((q : ℕ) → taken_at low.new q ≡ (if q == b.slot then pages_of want.len else taken_at low.old q))) }
+    ensures space { IfOk result (λ b. low.new ≡ record low.old { counts = slice_set low.old.counts b.slot (pages_of want.len) }) }
     ensures within { IfOk result (λ b. (low.old.first ≤ b.slot) × (b.slot + pages_of want.len ≤ low.old.«end»)) }
     ensures ends { (low.new.first ≡ low.old.first) × (low.new.«end» ≡ low.old.«end») }
     ensures numbered { IfOk result (λ b. (b.number ≡ mappings.old.made)

@@ -45,16 +45,16 @@ pub enum SyncError {
 
 /// The memory of a device. It can't be dropped, since each frame has to be given back.
 pub struct Domain {
-    alloc: Global,
-    bounce: BounceMap,
-    shared: BounceMap,
-    store: Pool,
-    low: Iova,
-    high: Iova,
-    mappings: Numbered<Bounced>,
-    regions: Numbered<Extent>,
-    uses: Uses,
-    is_shown: bool,
+    pub(crate) alloc: Global,
+    pub(crate) bounce: BounceMap,
+    pub(crate) shared: BounceMap,
+    pub(crate) store: Pool,
+    pub(crate) low: Iova,
+    pub(crate) high: Iova,
+    pub(crate) mappings: Numbered<Bounced>,
+    pub(crate) regions: Numbered<Extent>,
+    pub(crate) uses: Uses,
+    pub(crate) is_shown: bool,
 }
 
 impl Model for Domain {

@@ -7,6 +7,8 @@
 #![tactic(auto)]
 
 mod access;
+mod areas;
+mod batch;
 mod booking;
 mod domain;
 mod numbered;
@@ -14,4 +16,5 @@ mod pages;
 mod streaming;
 mod uses;
 
+pub use areas::AREA_START;
 pub use domain::{Domain, NotLive, SyncError};

@@ -1,6 +1,6 @@
 //! Values by numbers that are given out in order.
 
-ghost use Rattle.std.specs.Prelude.{◌≡◌, ◌+◌, ◌<◌, ◌^◌, ◌==◌, not, ℕ, [], ◌∷◌, ◌++◌, filter, find, length, IfOk, OnErr};
+ghost use Rattle.std.specs.Prelude.{◌≡◌, ◌+◌, ◌<◌, ◌^◌, ◌==◌, not, ℕ, [], ◌∷◌, ◌++◌, ◌-◌, List, filter, find, length, IfOk, OnErr};
 ghost use Rattle.std.specs.Option.{option_map};
 
 use std::alloc::{AllocError, Global};
@@ -78,5 +78,15 @@ impl<T: Copy + Drop> Numbered<T> {
         ensures { self.new ≡ record self.old { entries = filter (λ e. not (e.0 == number)) self.old.entries } }
     {
         self.map.remove(&number);
+    }
+
+    /// Takes the value that was added last away, as if it had not been added.
+    pub fn undo(&mut self)
+        requires { 0 < self.old.made }
+        ensures { (es : List (ℕ × T)) (value : T) → self.old.entries ≡ es ++ (self.old.made - 1, value) ∷ [] → self.new ≡ record { entries = es; made = self.old.made - 1 } }
+    {
+        let number = self.made - 1;
+        self.map.remove(&number);
+        self.made = number;
     }
 }

@@ -49,6 +49,7 @@ fn hold(map: &mut BounceMap, pool: &mut Pool, pages: Pages)
     ensures bytes { (x : Place) → value map.new pool.new x ≡ value map.old pool.old x }
     ensures frames { (p : ℕ) → p < length map.old.frames → is_some (frame_of map.new.frames p)
         ≡ (is_within pages.first pages.count p || is_some (frame_of map.old.frames p)) }
+    ensures spare { pool.old.spare ≤ pool.new.spare + pages.count }
     ensures same { SameShape map.old map.new }
 {
     for page in pages.first..pages.first + pages.count {
@@ -69,6 +70,7 @@ pub fn show(map: &mut BounceMap, pool: &mut Pool, pages: Pages, dir: Dir, iova: 
         ≡ (if is_to_device dir then over (home map.old iova) bytes.now x (value map.old pool.old x) else value map.old pool.old x) }
     ensures frames { (p : ℕ) → p < length map.old.frames → is_some (frame_of map.new.frames p)
         ≡ (is_within pages.first pages.count p || is_some (frame_of map.old.frames p)) }
+    ensures spare { pool.old.spare ≤ pool.new.spare + pages.count }
     ensures same { SameShape map.old map.new }
 {
     hold(map, pool, pages);

@@ -11,8 +11,8 @@ use Rattle.vd_domain.specs.Held.{Held, IsFit}
 use Rattle.vd_domain.specs.Handed.{AreOf, IsOf, bytes_of}
 use Rattle.vd_domain.specs.Stands.{Stands}
 use Rattle.vd_domain.specs.Placing.{AreGiven, IsReady, streamings, shown, pages_met}
-use Rattle.vd_domain.proofs.Batches.{first_some}
-use Rattle.vd_domain.proofs.Shows.{mapping_given, one_more, are_of_next, rest_some, first_given, first_fit, first_stands, rest_fit, rest_stands}
+use Rattle.vd_domain.proofs.Batches.{first_some, rest_some}
+use Rattle.vd_domain.proofs.Shows.{mapping_given, one_more, are_of_next, first_given, first_fit, first_stands, rest_fit, rest_stands}
 use Rattle.vd_domain.proofs.batch.+show_all.Goals as goal
 
 pub show_all-requires : goal.show_all-requires

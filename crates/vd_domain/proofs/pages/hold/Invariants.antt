@@ -12,5 +12,5 @@ invariant-loop-page l = record {
   frames : (q : ℕ) → q < length l.initial.map.frames → is_some (frame_of l.map.frames q)
       ≡ (is_within l.fn.pages.first (l.page - l.fn.pages.first) q || is_some (frame_of l.initial.map.frames q));
   same : SameShape l.initial.map l.map;
-  spare : (l.fn.pages.first + l.fn.pages.count) - l.page ≤ l.pool.spare;
+  spare : l.initial.pool.spare ≤ l.pool.spare + (l.page - l.fn.pages.first);
 }
