@@ -10,3 +10,4 @@ pub mod Counts
 pub mod Fits
 pub mod Steps
 pub mod Opened
+pub mod Beside

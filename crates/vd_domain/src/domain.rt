@@ -21,7 +21,7 @@ use crate::access::{first_missing, read, write};
 use crate::booking::book;
 use crate::numbered::Numbered;
 use crate::pages::{pages_met, show};
-use crate::streaming::{Bounced, Extent, gives};
+use crate::streaming::{Bounced, Extent, gives, hands};
 use crate::uses::Uses;
 use std::alloc::{AllocError, Global};
 use std::marker::Model;
@@ -256,6 +256,100 @@ impl Domain {
             bytes,
         );
         Ok(())
+    }
+
+    /// Copies a mapping's bytes to the device, as a map does.
+    pub fn sync_device(
+        &mut self,
+        pool: &mut Pool,
+        number: u64,
+        bytes: &[u8],
+    ) -> Result<(), SyncError>
+        requires holds { Holds self.old.bounce.frames pool.old }
+        requires size { pool.old.per_page ≡ self.old.bounce.per_page }
+        requires text { (m : Streaming) → mapping_of self.old number ≡ Some m → length bytes.now ≡ m.want.len }
+        ensures kept { Keeps self.old.bounce.frames self.new.bounce.frames pool.old pool.new }
+        ensures not_live { result ≡ Err SyncError.NotLive ↔ (mapping_of self.old number ≡ None) }
+        ensures wrong { (m : Streaming) → mapping_of self.old number ≡ Some m → result ≡ Err SyncError.WrongDir ↔ (is_to_device m.want.dir ≡ false) }
+        ensures ok { (x : Setting) (acts : List Act) (m : Streaming) → mapping_of self.old number ≡ Some m → Stands x acts self.old pool.old
+            → IsOf x.per_page acts m.want bytes.now → OnOk result (Stands x (Driver (Synced_device m) ∷ acts) self.new pool.new) }
+        ensures err { OnErr result ((self.new ≡ self.old) × (pool.new ≡ pool.old)) }
+        ensures counts { (self.new.maps ≡ self.old.maps) × (self.new.made ≡ self.old.made) }
+        ensures page { self.new.bounce.per_page ≡ self.old.bounce.per_page }
+    {
+        let m = match self.mappings.get(number) {
+            Some(m) => m,
+            None => return Err(SyncError::NotLive),
+        };
+        if !hands(m.want.dir) {
+            return Err(SyncError::WrongDir);
+        }
+        self.bounce.put(pool, PAGE_SIZE * m.slot, bytes);
+        Ok(())
+    }
+
+    /// Fills a slice with a mapping's bytes, as an unmap does.
+    pub fn sync_cpu(&mut self, pool: &mut Pool, number: u64, out: &mut [u8]) -> Result<(), SyncError>
+        requires holds { Holds self.old.bounce.frames pool.old }
+        requires size { pool.old.per_page ≡ self.old.bounce.per_page }
+        requires room { (m : Streaming) → mapping_of self.old number ≡ Some m → length out.old ≡ m.want.len }
+        ensures not_live { result ≡ Err SyncError.NotLive ↔ (mapping_of self.old number ≡ None) }
+        ensures wrong { (m : Streaming) → mapping_of self.old number ≡ Some m → result ≡ Err SyncError.WrongDir ↔ (is_from_device m.want.dir ≡ false) }
+        ensures ok { (x : Setting) (acts : List Act) (m : Streaming) → mapping_of self.old number ≡ Some m → Stands x acts self.old pool.old
+            → Stands x (Driver (Synced_cpu m) ∷ acts) self.new pool.new }
+        ensures given { (x : Setting) (acts : List Act) (m : Streaming) → mapping_of self.old number ≡ Some m → Stands x acts self.old pool.old
+            → OnOk result (out.new ≡ bus_bytes x.per_page acts (iova_of m) m.want.len) }
+        ensures left { OnErr result (out.new ≡ out.old) }
+        ensures same { (self.new ≡ self.old) × (pool.new ≡ pool.old) }
+    {
+        let m = match self.mappings.get(number) {
+            Some(m) => m,
+            None => return Err(SyncError::NotLive),
+        };
+        if !gives(m.want.dir) {
+            return Err(SyncError::WrongDir);
+        }
+        self.bounce.get(pool, PAGE_SIZE * m.slot, out);
+        Ok(())
+    }
+
+    /// How many mappings and coherent regions are live.
+    pub fn live(&self) -> u64
+        ensures { result ≡ length self.now.live + length self.now.regions }
+    {
+        self.mappings.len() + self.regions.len()
+    }
+
+    /// Ends the bounce region. Pages and mappings stay.
+    pub fn reset_bounce(&mut self)
+        ensures ok { (x : Setting) (acts : List Act) (m : Memory) → Stands x acts self.old m → Stands x (State Cleared ∷ acts) self.new m }
+        ensures same { self.new ≡ record self.old { is_shown = false } }
+    {
+        self.is_shown = false;
+    }
+
+    /// The addresses of a coherent region, or none where it isn't live.
+    pub fn coherent(&self, number: u64) -> Option<Range>
+        ensures { result ≡ option_map range_of (coherent_of self.now number) }
+    {
+        match self.regions.get(number) {
+            Some(r) => Some(Range {
+                start: PAGE_SIZE * r.slot,
+                last: PAGE_SIZE * (r.slot + pages(r.len)) - 1,
+            }),
+            None => None,
+        }
+    }
+
+    /// Gives every frame of bounce memory back.
+    pub fn end(&mut self, pool: &mut Pool)
+        requires holds { Holds self.old.bounce.frames pool.old }
+        requires idle { (self.old.live ≡ []) × (self.old.regions ≡ []) }
+        requires free { self.old.bounce.user ≡ None }
+        ensures kept { Keeps self.old.bounce.frames self.new.bounce.frames pool.old pool.new }
+        ensures none { (p : ℕ) → frame_of self.new.bounce.frames p ≡ None }
+    {
+        self.bounce.empty(pool);
     }
 
     /// Gives every frame back and keeps nothing, whatever is live or registered.
