@@ -289,7 +289,12 @@ impl Domain {
     }
 
     /// Fills a slice with a mapping's bytes, as an unmap does.
-    pub fn sync_cpu(&mut self, pool: &mut Pool, number: u64, out: &mut [u8]) -> Result<(), SyncError>
+    pub fn sync_cpu(
+        &mut self,
+        pool: &mut Pool,
+        number: u64,
+        out: &mut [u8],
+    ) -> Result<(), SyncError>
         requires holds { Holds self.old.bounce.frames pool.old }
         requires size { pool.old.per_page ≡ self.old.bounce.per_page }
         requires room { (m : Streaming) → mapping_of self.old number ≡ Some m → length out.old ≡ m.want.len }
@@ -371,5 +376,113 @@ impl Domain {
         } = self;
         shared.discard(&mut store);
         bounce.discard(pool);
+    }
+}
+
+#[cfg(test)]
+mod tests {
+    use super::*;
+    use std::test::Fail;
+    use vd_model::Dir;
+
+    /// A want of buffer 0 from its start.
+    fn want(len: u64, dir: Dir) -> Want
+        ensures { result ≡ record { buffer = 0; offset = 0; len = len; dir = dir } }
+    {
+        Want {
+            buffer: 0,
+            offset: 0,
+            len,
+            dir,
+        }
+    }
+
+    #[test]
+    fn hands_its_bytes_alone(rt: HostRuntime) -> Result<(), Fail> {
+        let mut pool = Pool::new(rt.alloc(), 1);
+        let mut domain = Domain::new(rt.alloc(), 16384, 32768, 1)?;
+        let mapped = domain.map(&mut pool, want(5, Dir::To), b"abcde");
+        let mut tail = [7; 5];
+        let loaded = domain.load(&pool, 0x3fff003, &mut tail);
+        let mut over = [7; 2];
+        let fault = domain.load(&pool, 0x3ffffff, &mut over);
+        let refused = domain.store(&mut pool, 0x3ffefff, b"aa");
+        let live = domain.live();
+        domain.discard(&mut pool);
+        assert_eq!(rt;
+            mapped,
+            Ok(Mapping {
+                number: 0,
+                iova: 0x3fff000
+            })
+        );
+        assert_eq!(rt; loaded, Ok(()));
+        assert_eq!(rt; tail, [b'd', b'e', 0, 0, 0]);
+        assert_eq!(rt; fault, Err(Bus { at: 0x4000000 }));
+        assert_eq!(rt; over, [7, 7]);
+        assert_eq!(rt; refused, Err(Bus { at: 0x3ffefff }));
+        assert_eq!(rt; live, 1);
+        Ok(())
+    }
+
+    #[test]
+    fn places(rt: HostRuntime) -> Result<(), Fail> {
+        let mut pool = Pool::new(rt.alloc(), 1);
+        let mut domain = Domain::new(rt.alloc(), 2, 4, 1)?;
+        let empty = domain.map(&mut pool, want(0, Dir::To), b"");
+        let first = domain.map(&mut pool, want(1, Dir::To), b"a");
+        let full = domain.map(&mut pool, want(1, Dir::To), b"a");
+        let info = domain.info(0);
+        let other = domain.info(1);
+        domain.discard(&mut pool);
+        assert_eq!(rt; empty, Err(MapError::Empty));
+        assert_eq!(rt;
+            first,
+            Ok(Mapping {
+                number: 0,
+                iova: 0x1000
+            })
+        );
+        assert_eq!(rt; full, Err(MapError::NoSpace));
+        assert_eq!(rt;
+            info,
+            Some(MapInfo {
+                iova: 0x1000,
+                want: want(1, Dir::To)
+            })
+        );
+        assert_eq!(rt; other, None);
+        Ok(())
+    }
+
+    #[test]
+    fn large_pages(rt: HostRuntime) -> Result<(), Fail> {
+        let mut pool = Pool::new(rt.alloc(), 16);
+        let mut domain = Domain::new(rt.alloc(), 32, 64, 16)?;
+        let first = domain.map(&mut pool, want(2, Dir::To), b"ab");
+        let second = domain.map(&mut pool, want(2, Dir::To), b"ab");
+        let mut begin = [7];
+        let loaded = domain.load(&pool, 0x10000, &mut begin);
+        let mut last = [7];
+        let before = domain.load(&pool, 0xffff, &mut last);
+        domain.discard(&mut pool);
+        assert_eq!(rt;
+            first,
+            Ok(Mapping {
+                number: 0,
+                iova: 0x1f000
+            })
+        );
+        assert_eq!(rt;
+            second,
+            Ok(Mapping {
+                number: 1,
+                iova: 0x1e000
+            })
+        );
+        assert_eq!(rt; loaded, Ok(()));
+        assert_eq!(rt; begin, [0]);
+        assert_eq!(rt; before, Err(Bus { at: 0xffff }));
+        Ok(())
     }
 }

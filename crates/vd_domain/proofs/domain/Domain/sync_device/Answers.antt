@@ -77,9 +77,10 @@ returns-clause-not_live c =
 
 pub returns-clause-wrong : goal.returns-clause-wrong
 returns-clause-wrong c = λ m e.
-    let on : c.hands.result ≡ true = grind (arith, common_steps) in
-    ((λ f. absurd (let g = f in cc)),
-    (λ f. absurd (true≢false (sym on ∙ c.hands.ensures ∙ sym (ap (λ (k : Streaming). is_to_device k.want.dir) (is_mapping (goal.at.returns-clause-wrong c).In-Some m e)) ∙ f))))
+    let on : c.hands.result ≡ true = grind (arith, common_steps) in (
+      (λ f. absurd (let g = f in cc)),
+      (λ f. absurd (true≢false (sym on ∙ c.hands.ensures ∙ sym (ap (λ (k : Streaming). is_to_device k.want.dir) (is_mapping (goal.at.returns-clause-wrong c).In-Some m e)) ∙ f))),
+    )
 
 pub returns-clause-ok : goal.returns-clause-ok
 returns-clause-ok c = λ x acts m e s of.
