@@ -8,7 +8,7 @@ use Rattle.vd_domain.specs.Held.{Holding, IsApart}
 use Rattle.vd_domain.proofs.Entries.{mapped_fewer}
 use Rattle.vd_domain.proofs.Holdings.{pairs_tail, rest_kept}
 
-map_len : {X Y : Type 0} (f : X → Y) (xs : List X) → length (map f xs) ≡ length xs
+pub map_len : {X Y : Type 0} (f : X → Y) (xs : List X) → length (map f xs) ≡ length xs
 map_len f [] = refl
 map_len f (x ∷ xs) = ap (λ n. suc n) (map_len f xs)
 

@@ -10,10 +10,10 @@ use Rattle.vd_pool.specs.Memory.{Memory}
 use Rattle.vd_bounce.specs.Frames.{frame_of, Holds}
 use Rattle.vd_bounce.specs.Bounce.{Bounce, SameShape, bounce_size, page_size, is_present}
 use Rattle.vd_iova.specs.Space.{Space, taken_at}
-use Rattle.vd_model.specs.Acts.{Streaming}
+use Rattle.vd_model.specs.Acts.{Streaming, Coherent}
 use Rattle.vd_model.specs.Live.{meets_page}
 use Rattle.vd_domain.specs.Slots.{meets_slots}
-use Rattle.vd_domain.specs.Held.{Held, IsFit, AreTaken, IsTaken, Holding, mapping_holds, region_holds, mapping_of, bounce_slots, has_slot}
+use Rattle.vd_domain.specs.Held.{Held, IsFit, AreTaken, IsTaken, Holding, mapping_holds, region_holds, mapping_of, coherent_of, bounce_slots, has_slot}
 use Rattle.vd_domain.specs.Numbered.{Numbered}
 use Rattle.vd_domain.specs.declared.streaming.Bounced.{Bounced}
 use Rattle.vd_domain.specs.declared.streaming.Extent.{Extent}
@@ -305,3 +305,16 @@ new_fit b s store low high uses maps held count g slots top eb es el eh eu em er
 
   none_of : (p : ℕ) → slice_index uses p ≡ 0
   none_of p = ap (λ (xs : List ℕ). slice_index xs p) eu ∙ zero_at count p
+
+-- a live region lies in coherent memory
+pub region_inside : (h : Held) (low high : Space) (uses : List ℕ) → IsFit h low high uses → (a : ℕ) (r : Coherent) → coherent_of h a ≡ Some r
+    → (0 < pages_of r.len) × (r.slot + pages_of r.len ≤ 65536) × (0 < taken_at high r.slot)
+region_inside h low high uses fit a r e =
+    let t = held_is high h.made (map region_holds h.regions) a (region_holds r) fit.regions
+    (mapped_found region_holds (λ (m : Coherent). m.number == a) (λ (k : Holding). k.number == a) (λ m. refl) h.regions ∙ ap (option_map region_holds) e) in
+    let some = t.some in
+    let high = t.high in
+    let top = fit.high_end in
+    let small = fit.small in
+    let taken = t.taken in
+    (some, omega arith, omega arith)

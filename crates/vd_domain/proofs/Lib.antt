@@ -18,3 +18,4 @@ pub mod AreaActs
 pub mod Undoing
 pub mod Batches
 pub mod Shows
+pub mod Beside

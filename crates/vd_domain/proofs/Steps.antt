@@ -14,9 +14,9 @@ use Rattle.vd_iova.specs.Space.{Space, taken_of}
 use Rattle.vd_model.specs.declared.memory.Origin.TheVariants.{Daemon}
 use Rattle.vd_model.specs.Setting as model
 use Rattle.vd_model.specs.Setting.{Setting}
-use Rattle.vd_model.specs.Acts.{Act, Node, Driver, Streaming, Coherent, Daemon_put, Mapped, Unmapped}
-use Rattle.vd_model.specs.Live.{live, live_regions, region_covers, is_present, page_of, meets_page, maps_address, iova_of}
-use Rattle.vd_model.specs.Puts.{Put, Iova, last_put, ram, bus_bytes, each_from, shown, text_at, driver_put, or_put, handed_if, zero_if, a_zero, ram_cell, is_to_device}
+use Rattle.vd_model.specs.Acts.{Act, Node, Driver, Streaming, Coherent, Daemon_put, Mapped, Unmapped, Synced_device}
+use Rattle.vd_model.specs.Live.{live, live_regions, region_covers, is_present, page_of, meets_page, maps_address, iova_of, registered, maps, regions, is_bounce_live, area_len}
+use Rattle.vd_model.specs.Puts.{address_put, Put, Iova, last_put, ram, bus_bytes, each_from, shown, text_at, driver_put, or_put, handed_if, zero_if, a_zero, ram_cell, is_to_device}
 use Rattle.vd_model.specs.AreaTurns.{is_accessible, first_bus, first_failing}
 use Rattle.vd_domain.specs.Reached.{is_reached, byte_at}
 use Rattle.vd_domain.specs.Slots.{meets_slots}
@@ -30,7 +30,7 @@ use Rattle.vd_domain.proofs.Failing.{first_failing_same, first_failing_none}
 use Rattle.vd_domain.proofs.Reaches.{low_same, high_same, low_byte, high_byte}
 use Rattle.std.proofs.Math.Nat.{mul-le-mul_left}
 use Rattle.vd_domain.proofs.Present.{held_present, page_below, page_past, absent_zero}
-use Rattle.vd_domain.proofs.Puttings.{or_byte, text_byte, driver_addressed, daemon_addressed, size_is, page_is_of, shown_low, shown_high, next_bytes, next_shared, next_area}
+use Rattle.vd_domain.proofs.Puttings.{IsAddressed, or_byte, text_byte, driver_addressed, daemon_addressed, size_is, page_is_of, shown_low, shown_high, next_bytes, next_shared, next_area}
 
 -- ---- lists by their places
 
@@ -330,6 +330,35 @@ module _ (x : Setting) (acts : List Act) (h : Held) (m : Memory) (s : Stands x a
     number : mp.number ≡ a
     number = eqb-true mp.number a (found_passes (λ (k : Streaming). k.number == a) h.live mp e)
 
+  -- ---- an act that puts nothing at any address and changes nothing that the domain keeps, but perhaps whether the bounce region is live
+
+  pub quiet : (act : Act) (shown : Bool) → IsAddressed x.per_page acts act → ((a : ℕ) → address_put x.per_page (last_put x.per_page acts) acts act a ≡ None)
+      → live (act ∷ acts) ≡ live acts → maps (act ∷ acts) ≡ maps acts → live_regions (act ∷ acts) ≡ live_regions acts → regions (act ∷ acts) ≡ regions acts
+      → shown ≡ is_bounce_live (act ∷ acts) → area_len (act ∷ acts) ≡ area_len acts → registered (act ∷ acts) ≡ registered acts
+      → ((p : ℕ) → is_present x.per_page (act ∷ acts) p ≡ is_present x.per_page acts p) → Stands x (act ∷ acts) (record h { is_shown = shown }) m
+  quiet act shown way none lives count held made is area reg present = record {
+    bounce = s.bounce;
+    iova = s.iova;
+    per_page = s.per_page;
+    live = s.live ∙ sym lives;
+    maps = s.maps ∙ sym count;
+    regions = s.regions ∙ sym held;
+    made = s.made ∙ sym made;
+    is_shown = is;
+    area = s.area ∙ sym area;
+    registered = reg ∙ s.registered;
+    present = λ p below. s.present p below ∙ sym (present p);
+    bytes = λ a free below seen. next_bytes x acts h m s act way h m
+        (λ a below seen free. s.bytes a free (subst (λ k. a < k) (sym (size_is x acts h m s)) below) (sym (present (page_of x.per_page a)) ∙ seen)
+        ∙ ap (λ o. or_byte o (last_byte x acts (Iova a))) (sym (none a))) free a below seen;
+    area_bytes = next_area x acts h m s act way h m (length (unwrap_or h.bounce.area []))
+        (λ o below free. refl) (λ u o below some off. refl) (λ u a below some. ap (λ o. or_byte o (value h.bounce m (b.Area (u + a)))) (sym (none a))) (omega arith);
+    shared = next_shared x acts h m s act way h m
+        (λ a above covered. ap (λ k. value h.shared h.store (b.Iova (a - k))) (sym (size_is x acts h m s))
+        ∙ s.shared a (subst (λ k. k ≤ a) (sym (size_is x acts h m s)) above) (sym (ap (λ (rs : List Coherent). list_any (λ r. region_covers r a) rs) held) ∙ covered)
+        ∙ ap (λ o. or_byte o (last_byte x acts (Iova a))) (sym (none a)));
+  }
+
   -- ---- a map
 
   module _ (mp : Streaming) (text : List ℕ) (is : IsOf x.per_page acts mp.want text) (long : length text ≡ mp.want.len) (inside : mp.slot + pages_of mp.want.len ≤ bounce_slots h) where
@@ -483,3 +512,50 @@ module _ (x : Setting) (acts : List Act) (h : Held) (m : Memory) (s : Stands x a
                 ≡ or_byte (driver_put x.per_page (last_put x.per_page acts) acts (Mapped mp) a) (last_byte x acts (Iova a))
             by true e = ap (λ v. or_byte (driver_put x.per_page (last_put x.per_page acts) acts (Mapped mp) a) v) (s.bytes a none (subst (λ k. a < k) (sym (size_is x acts h m s)) below) e)
             by false e = fresh_put a (value h.bounce m (b.Iova a)) (last_byte x acts (Iova a)) (or_right (meets_page x.per_page (page_of x.per_page a) mp) (is_present x.per_page acts (page_of x.per_page a)) e seen)
+
+    -- ---- a copy to the device
+
+    synced_put : (a old : ℕ) → (if is_within (iova_of mp) (length text) a then slice_index text (a - iova_of mp) else old)
+        ≡ or_byte (driver_put x.per_page (last_put x.per_page acts) acts (Synced_device mp) a) old
+    synced_put a old = ap (λ n. if is_within (iova_of mp) n a then slice_index text (a - iova_of mp) else old) long ∙ by (is_within (iova_of mp) mp.want.len a) refl where
+      by : (t : Bool) → is_within (iova_of mp) mp.want.len a ≡ t → (if t then slice_index text (a - iova_of mp) else old) ≡ or_byte (handed_if t (last_put x.per_page acts) mp a) old
+      by true e = handed_byte a e
+      by false e = refl
+
+    synced_past : (a old : ℕ) → bounce_size h.bounce ≤ a → old ≡ or_byte (driver_put x.per_page (last_put x.per_page acts) acts (Synced_device mp) a) old
+    synced_past a old above =
+        let fits = text_fits in
+        let off : is_within (iova_of mp) mp.want.len a ≡ false = grind (arith, nat_tests) in
+        sym (ap (λ t. or_byte (handed_if t (last_put x.per_page acts) mp a) old) off)
+
+    pub synced : (c : Bounce) (n : Memory) → SameShape h.bounce c → ((p : ℕ) → b.is_present c p ≡ b.is_present h.bounce p)
+        → ((p : Place) → value c n p ≡ over (b.home h.bounce (iova_of mp)) text p (value h.bounce m p))
+        → Stands x (Driver (Synced_device mp) ∷ acts) (record h { bounce = c }) n
+    synced c n same present values = record {
+      bounce = s.bounce ∙ sym (slots_same h.bounce c same);
+      iova = s.iova ∙ ap (λ k. k + length h.shared.frames) (sym (slots_same h.bounce c same));
+      per_page = s.per_page ∙ sym same.size;
+      live = s.live;
+      maps = s.maps;
+      regions = s.regions;
+      made = s.made;
+      is_shown = s.is_shown;
+      area = same.area ∙ s.area;
+      registered = s.registered ∙ ap (λ o. option_map (λ u. record { base = u; size = model.bounce_size x }) o) (sym same.user);
+      present = λ p below. present p ∙ s.present p (subst (λ k. p < k) same.pages below);
+      bytes = λ a none below seen. next_bytes x acts h m s (Driver (Synced_device mp)) (driver_addressed x.per_page acts (Synced_device mp)) (record h { bounce = c }) n
+          (λ a below seen none. values (b.Iova a) ∙ ap (λ u. over (home_by u (iova_of mp)) text (b.Iova a) (value h.bounce m (b.Iova a))) none
+          ∙ synced_put a (value h.bounce m (b.Iova a))
+          ∙ ap (λ v. or_byte (driver_put x.per_page (last_put x.per_page acts) acts (Synced_device mp) a) v) (s.bytes a none (subst (λ k. a < k) (sym (size_is x acts h m s)) below) seen))
+          (sym same.user ∙ none) a below seen;
+      area_bytes = next_area x acts h m s (Driver (Synced_device mp)) (driver_addressed x.per_page acts (Synced_device mp)) (record h { bounce = c }) n (length (unwrap_or c.area []))
+          (λ o below none. values (b.Area o) ∙ ap (λ u. over (home_by u (iova_of mp)) text (b.Area o) (value h.bounce m (b.Area o))) none)
+          (λ u o below some off. values (b.Area o) ∙ ap (λ w. over (home_by w (iova_of mp)) text (b.Area o) (value h.bounce m (b.Area o))) some
+          ∙ over_outside u (iova_of mp) (bounce_size h.bounce) o text (value h.bounce m (b.Area o)) (λ any. (let fits = text_fits in let l = long in omega arith)) off)
+          (λ u a below some. values (b.Area (u + a)) ∙ ap (λ w. over (home_by w (iova_of mp)) text (b.Area (u + a)) (value h.bounce m (b.Area (u + a)))) some
+          ∙ over_home (Some u) (iova_of mp) a text (value h.bounce m (b.Area (u + a))) ∙ synced_put a (value h.bounce m (b.Area (u + a))))
+          (let same_long = area_long h.bounce c same in omega arith);
+      shared = next_shared x acts h m s (Driver (Synced_device mp)) (driver_addressed x.per_page acts (Synced_device mp)) (record h { bounce = c }) n
+          (λ a above covered. ap (λ k. value h.shared h.store (b.Iova (a - k))) (sym (size_is x acts h m s)) ∙ s.shared a (subst (λ k. k ≤ a) (sym (size_is x acts h m s)) above) covered
+          ∙ synced_past a (last_byte x acts (Iova a)) above);
+    }

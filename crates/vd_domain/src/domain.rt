@@ -21,7 +21,7 @@ use crate::access::{first_missing, read, write};
 use crate::booking::book;
 use crate::numbered::Numbered;
 use crate::pages::{pages_met, show};
-use crate::streaming::{Bounced, Extent, gives};
+use crate::streaming::{Bounced, Extent, gives, hands};
 use crate::uses::Uses;
 use std::alloc::{AllocError, Global};
 use std::marker::Model;
@@ -258,6 +258,105 @@ impl Domain {
         Ok(())
     }
 
+    /// Copies a mapping's bytes to the device, as a map does.
+    pub fn sync_device(
+        &mut self,
+        pool: &mut Pool,
+        number: u64,
+        bytes: &[u8],
+    ) -> Result<(), SyncError>
+        requires holds { Holds self.old.bounce.frames pool.old }
+        requires size { pool.old.per_page ≡ self.old.bounce.per_page }
+        requires text { (m : Streaming) → mapping_of self.old number ≡ Some m → length bytes.now ≡ m.want.len }
+        ensures kept { Keeps self.old.bounce.frames self.new.bounce.frames pool.old pool.new }
+        ensures not_live { result ≡ Err SyncError.NotLive ↔ (mapping_of self.old number ≡ None) }
+        ensures wrong { (m : Streaming) → mapping_of self.old number ≡ Some m → result ≡ Err SyncError.WrongDir ↔ (is_to_device m.want.dir ≡ false) }
+        ensures ok { (x : Setting) (acts : List Act) (m : Streaming) → mapping_of self.old number ≡ Some m → Stands x acts self.old pool.old
+            → IsOf x.per_page acts m.want bytes.now → OnOk result (Stands x (Driver (Synced_device m) ∷ acts) self.new pool.new) }
+        ensures err { OnErr result ((self.new ≡ self.old) × (pool.new ≡ pool.old)) }
+        ensures counts { (self.new.maps ≡ self.old.maps) × (self.new.made ≡ self.old.made) }
+        ensures page { self.new.bounce.per_page ≡ self.old.bounce.per_page }
+    {
+        let m = match self.mappings.get(number) {
+            Some(m) => m,
+            None => return Err(SyncError::NotLive),
+        };
+        if !hands(m.want.dir) {
+            return Err(SyncError::WrongDir);
+        }
+        self.bounce.put(pool, PAGE_SIZE * m.slot, bytes);
+        Ok(())
+    }
+
+    /// Fills a slice with a mapping's bytes, as an unmap does.
+    pub fn sync_cpu(
+        &mut self,
+        pool: &mut Pool,
+        number: u64,
+        out: &mut [u8],
+    ) -> Result<(), SyncError>
+        requires holds { Holds self.old.bounce.frames pool.old }
+        requires size { pool.old.per_page ≡ self.old.bounce.per_page }
+        requires room { (m : Streaming) → mapping_of self.old number ≡ Some m → length out.old ≡ m.want.len }
+        ensures not_live { result ≡ Err SyncError.NotLive ↔ (mapping_of self.old number ≡ None) }
+        ensures wrong { (m : Streaming) → mapping_of self.old number ≡ Some m → result ≡ Err SyncError.WrongDir ↔ (is_from_device m.want.dir ≡ false) }
+        ensures ok { (x : Setting) (acts : List Act) (m : Streaming) → mapping_of self.old number ≡ Some m → Stands x acts self.old pool.old
+            → Stands x (Driver (Synced_cpu m) ∷ acts) self.new pool.new }
+        ensures given { (x : Setting) (acts : List Act) (m : Streaming) → mapping_of self.old number ≡ Some m → Stands x acts self.old pool.old
+            → OnOk result (out.new ≡ bus_bytes x.per_page acts (iova_of m) m.want.len) }
+        ensures left { OnErr result (out.new ≡ out.old) }
+        ensures same { (self.new ≡ self.old) × (pool.new ≡ pool.old) }
+    {
+        let m = match self.mappings.get(number) {
+            Some(m) => m,
+            None => return Err(SyncError::NotLive),
+        };
+        if !gives(m.want.dir) {
+            return Err(SyncError::WrongDir);
+        }
+        self.bounce.get(pool, PAGE_SIZE * m.slot, out);
+        Ok(())
+    }
+
+    /// How many mappings and coherent regions are live.
+    pub fn live(&self) -> u64
+        ensures { result ≡ length self.now.live + length self.now.regions }
+    {
+        self.mappings.len() + self.regions.len()
+    }
+
+    /// Ends the bounce region. Pages and mappings stay.
+    pub fn reset_bounce(&mut self)
+        ensures ok { (x : Setting) (acts : List Act) (m : Memory) → Stands x acts self.old m → Stands x (State Cleared ∷ acts) self.new m }
+        ensures same { self.new ≡ record self.old { is_shown = false } }
+    {
+        self.is_shown = false;
+    }
+
+    /// The addresses of a coherent region, or none where it isn't live.
+    pub fn coherent(&self, number: u64) -> Option<Range>
+        ensures { result ≡ option_map range_of (coherent_of self.now number) }
+    {
+        match self.regions.get(number) {
+            Some(r) => Some(Range {
+                start: PAGE_SIZE * r.slot,
+                last: PAGE_SIZE * (r.slot + pages(r.len)) - 1,
+            }),
+            None => None,
+        }
+    }
+
+    /// Gives every frame of bounce memory back.
+    pub fn end(&mut self, pool: &mut Pool)
+        requires holds { Holds self.old.bounce.frames pool.old }
+        requires idle { (self.old.live ≡ []) × (self.old.regions ≡ []) }
+        requires free { self.old.bounce.user ≡ None }
+        ensures kept { Keeps self.old.bounce.frames self.new.bounce.frames pool.old pool.new }
+        ensures none { (p : ℕ) → frame_of self.new.bounce.frames p ≡ None }
+    {
+        self.bounce.empty(pool);
+    }
+
     /// Gives every frame back and keeps nothing, whatever is live or registered.
     pub fn discard(self, pool: &mut Pool)
         requires holds { Holds self.bounce.frames pool.old }
@@ -277,5 +376,113 @@ impl Domain {
         } = self;
         shared.discard(&mut store);
         bounce.discard(pool);
+    }
+}
+
+#[cfg(test)]
+mod tests {
+    use super::*;
+    use std::test::Fail;
+    use vd_model::Dir;
+
+    /// A want of buffer 0 from its start.
+    fn want(len: u64, dir: Dir) -> Want
+        ensures { result ≡ record { buffer = 0; offset = 0; len = len; dir = dir } }
+    {
+        Want {
+            buffer: 0,
+            offset: 0,
+            len,
+            dir,
+        }
+    }
+
+    #[test]
+    fn hands_its_bytes_alone(rt: HostRuntime) -> Result<(), Fail> {
+        let mut pool = Pool::new(rt.alloc(), 1);
+        let mut domain = Domain::new(rt.alloc(), 16384, 32768, 1)?;
+        let mapped = domain.map(&mut pool, want(5, Dir::To), b"abcde");
+        let mut tail = [7; 5];
+        let loaded = domain.load(&pool, 0x3fff003, &mut tail);
+        let mut over = [7; 2];
+        let fault = domain.load(&pool, 0x3ffffff, &mut over);
+        let refused = domain.store(&mut pool, 0x3ffefff, b"aa");
+        let live = domain.live();
+        domain.discard(&mut pool);
+        assert_eq!(rt;
+            mapped,
+            Ok(Mapping {
+                number: 0,
+                iova: 0x3fff000
+            })
+        );
+        assert_eq!(rt; loaded, Ok(()));
+        assert_eq!(rt; tail, [b'd', b'e', 0, 0, 0]);
+        assert_eq!(rt; fault, Err(Bus { at: 0x4000000 }));
+        assert_eq!(rt; over, [7, 7]);
+        assert_eq!(rt; refused, Err(Bus { at: 0x3ffefff }));
+        assert_eq!(rt; live, 1);
+        Ok(())
+    }
+
+    #[test]
+    fn places(rt: HostRuntime) -> Result<(), Fail> {
+        let mut pool = Pool::new(rt.alloc(), 1);
+        let mut domain = Domain::new(rt.alloc(), 2, 4, 1)?;
+        let empty = domain.map(&mut pool, want(0, Dir::To), b"");
+        let first = domain.map(&mut pool, want(1, Dir::To), b"a");
+        let full = domain.map(&mut pool, want(1, Dir::To), b"a");
+        let info = domain.info(0);
+        let other = domain.info(1);
+        domain.discard(&mut pool);
+        assert_eq!(rt; empty, Err(MapError::Empty));
+        assert_eq!(rt;
+            first,
+            Ok(Mapping {
+                number: 0,
+                iova: 0x1000
+            })
+        );
+        assert_eq!(rt; full, Err(MapError::NoSpace));
+        assert_eq!(rt;
+            info,
+            Some(MapInfo {
+                iova: 0x1000,
+                want: want(1, Dir::To)
+            })
+        );
+        assert_eq!(rt; other, None);
+        Ok(())
+    }
+
+    #[test]
+    fn large_pages(rt: HostRuntime) -> Result<(), Fail> {
+        let mut pool = Pool::new(rt.alloc(), 16);
+        let mut domain = Domain::new(rt.alloc(), 32, 64, 16)?;
+        let first = domain.map(&mut pool, want(2, Dir::To), b"ab");
+        let second = domain.map(&mut pool, want(2, Dir::To), b"ab");
+        let mut begin = [7];
+        let loaded = domain.load(&pool, 0x10000, &mut begin);
+        let mut last = [7];
+        let before = domain.load(&pool, 0xffff, &mut last);
+        domain.discard(&mut pool);
+        assert_eq!(rt;
+            first,
+            Ok(Mapping {
+                number: 0,
+                iova: 0x1f000
+            })
+        );
+        assert_eq!(rt;
+            second,
+            Ok(Mapping {
+                number: 1,
+                iova: 0x1e000
+            })
+        );
+        assert_eq!(rt; loaded, Ok(()));
+        assert_eq!(rt; begin, [0]);
+        assert_eq!(rt; before, Err(Bus { at: 0xffff }));
+        Ok(())
     }
 }

@@ -44,7 +44,8 @@ impl<T: Copy + Drop> Numbered<T> {
 
     /// How many are there.
     pub fn len(&self) -> u64
-        ensures { result ≡ length self.now.entries }
+        ensures value { result ≡ length self.now.entries }
+        ensures small { result < 2 ^ 63 }
     {
         self.map.len() as u64
     }
