@@ -80,6 +80,13 @@ impl BounceMap {
         page < self.frames.len() && (self.user.is_some() || self.frames[page].is_some())
     }
 
+    /// Whether a range of the area is registered.
+    pub fn is_registered(&self) -> bool
+        ensures { result ≡ is_some self.now.user }
+    {
+        self.user.is_some()
+    }
+
     /// Makes a page present. One that isn't gets a frame of zeros; a present page stays as it is.
     pub fn ensure(&mut self, pool: &mut Pool, page: u32)
         requires holds { Holds self.old.frames pool.old }
@@ -104,6 +111,8 @@ impl BounceMap {
         ensures kept { Keeps self.old.frames self.new.frames pool.old pool.new }
         ensures bytes { (x : Place) → value self.new pool.new x ≡ over (home self.old at) bytes.now x (value self.old pool.old x) }
         ensures present { (p : ℕ) → is_present self.new p ≡ is_present self.old p }
+        ensures frames { self.new.frames ≡ self.old.frames }
+        ensures spare { pool.new.spare ≡ pool.old.spare }
         ensures same { SameShape self.old self.new }
     {
         if bytes.is_empty() {
@@ -264,6 +273,20 @@ impl BounceMap {
             }
             self.user = None;
         }
+    }
+
+    /// Gives the frame of a page back, if it has one. The page holds zeros afterwards.
+    pub fn drop_page(&mut self, pool: &mut Pool, page: u32)
+        requires holds { Holds self.old.frames pool.old }
+        requires page { page < length self.old.frames }
+        ensures kept { Keeps self.old.frames self.new.frames pool.old pool.new }
+        ensures bytes { (a : ℕ) → value self.new pool.new (Iova a)
+            ≡ (if a / page_size self.old == page then 0 else value self.old pool.old (Iova a)) }
+        ensures area { (o : ℕ) → value self.new pool.new (Area o) ≡ value self.old pool.old (Area o) }
+        ensures frames { (p : ℕ) → is_some (frame_of self.new.frames p) ≡ (not (p == page) && is_some (frame_of self.old.frames p)) }
+        ensures same { SameShape self.old self.new }
+    {
+        rows::drop_page(&mut self.frames, pool, page as usize);
     }
 
     /// Gives every frame back.

@@ -18,6 +18,7 @@ pub fn put(frames: &[Option<Frame>], pool: &mut Pool, size: usize, at: usize, by
     ensures kept { Keeps frames.now frames.now pool.old pool.new }
     ensures bytes { (a : ℕ) → frame_byte size frames.now pool.new a
         ≡ (if is_within at (length bytes.now) a then slice_index bytes.now (a - at) else frame_byte size frames.now pool.old a) }
+    ensures spare { pool.new.spare ≡ pool.old.spare }
 {
     let mut done = 0;
     while done < bytes.len() {

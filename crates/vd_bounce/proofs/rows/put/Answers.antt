@@ -27,6 +27,7 @@ loop-done-preserved c =
     let within : c.loop-done.done + n ≤ length c.args.bytes.now = omega arith in
     record {
       within = omega arith;
+      spare = wrote.spare ∙ c.loop-done.invariant.spare;
       kept = keeps_more c.loop-done.invariant.kept (wrote_kept (at / size) c.in-Some.frame (at % size) text holds here wrote);
       bytes = λ a.
           wrote_bytes size frames c.loop-done.pool c.write.new.self at c.in-Some.frame text c.requires.some holds here fits wrote a

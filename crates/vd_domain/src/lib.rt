@@ -1,0 +1,20 @@
+//! The memory of one device: mappings, coherent regions, what its daemon can access, the daemon's area and
+//! its registration.
+//!
+//! It stands on `vd_bounce` for the bytes, on `vd_iova` for places and on `vd_regions` for look-ups; frames
+//! come from the pool that all devices share. The contracts see a record, and one relation says which acts of
+//! a device it stands for. Each call is told by what the definitions answer after those acts, and adds its act.
+#![tactic(auto)]
+
+mod access;
+mod areas;
+mod batch;
+mod booking;
+mod domain;
+mod numbered;
+mod pages;
+mod streaming;
+mod uses;
+
+pub use areas::AREA_START;
+pub use domain::{Domain, NotLive, SyncError};
