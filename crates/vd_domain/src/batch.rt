@@ -198,3 +198,34 @@ fn show_all(
     );
     show_all(bounce, uses, pool, wants, booked, bytes);
 }
+
+#[cfg(test)]
+mod tests {
+    use super::*;
+    use std::test::Fail;
+    use vd_model::Dir;
+
+    #[test]
+    fn maps_two(rt: HostRuntime) -> Result<(), Fail> {
+        let mut pool = Pool::new(rt.alloc(), 1);
+        let mut domain = Domain::new(rt.alloc(), 4, 8, 1)?;
+        let wants = [
+            Want {
+                buffer: 0,
+                offset: 0,
+                len: 1,
+                dir: Dir::To,
+            },
+            Want {
+                buffer: 0,
+                offset: 1,
+                len: 2,
+                dir: Dir::To,
+            },
+        ];
+        let first = domain.map_all(&mut pool, &wants, b"abc");
+        domain.discard(&mut pool);
+        assert_eq!(rt; first, Ok(0));
+        Ok(())
+    }
+}
