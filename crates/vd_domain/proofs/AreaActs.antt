@@ -1,9 +1,8 @@
 -- A domain after the daemon's acts on its area and its registration.
-use Rattle.std.proofs.Common.{◌≡◌, ℕ, ◌+◌, ◌-◌, ◌*◌, ◌/◌, ◌<◌, ◌≤◌, ◌⊎◌, inl, inr, refl, ap, sym, subst, ◌∙◌, arith, Bool, true, false, if◌then◌else◌, ◌&&◌, ◌||◌, nat_le, nat_lt, List, [], ◌∷◌, length, replicate, Option, Some, None, true≢false}
+use Rattle.std.proofs.Common.{◌≡◌, ℕ, ◌+◌, ◌-◌, ◌*◌, ◌/◌, ◌<◌, ◌≤◌, inl, inr, refl, ap, sym, subst, ◌∙◌, arith, Bool, true, false, if◌then◌else◌, ◌&&◌, nat_lt, List, [], ◌∷◌, length, Option, Some, None}
 use Rattle.std.specs.Prelude.{unwrap_or, is_some}
 use Rattle.std.proofs.lemmas.Bool.Decides.{nat_tests, leb_tells}
 use Rattle.std.proofs.Math.Nat.{mul-le-mul_left}
-use Rattle.std.proofs.lemmas.List.{get_or-replicate, length-replicate}
 use Rattle.std.specs.List.{slice_index, slice_index_or}
 use Rattle.std.specs.Option.{option_map}
 use Rattle.vd_num.specs.Number.{is_within}
@@ -13,13 +12,13 @@ use Rattle.vd_bounce.specs.Bounce.{Bounce, Place, Iova, Area, value, home, home_
 use Rattle.vd_bounce.proofs.Pages.{within_low, within_high}
 use Rattle.vd_model.specs.Setting.{Setting}
 use Rattle.vd_model.specs.Setting as setting
-use Rattle.vd_model.specs.Acts.{Act, Node, Closed, Area_made, Area_put, Registered, Deregistered}
+use Rattle.vd_model.specs.Acts.{Act, Node, Area_put, Registered, Deregistered}
 use Rattle.vd_model.specs.Live as model
 use Rattle.vd_model.specs.Puts as puts
 use Rattle.vd_domain.specs.Held.{Held, bounce_slots}
 use Rattle.vd_domain.specs.Stands.{Stands, last_byte}
 use Rattle.vd_domain.proofs.Presence.{area_length}
-use Rattle.vd_domain.proofs.Putting.{quiet_iova, quiet_area, zero_put, moved_put, text_put}
+use Rattle.vd_domain.proofs.Putting.{quiet_iova, quiet_area, moved_put, text_put}
 
 -- ---- what has the same shape
 

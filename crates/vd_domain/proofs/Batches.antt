@@ -1,18 +1,18 @@
 -- Wants that are given places one after another.
-use Rattle.std.proofs.Common.{◌≡◌, ℕ, suc, ◌+◌, ◌*◌, ◌/◌, ◌%◌, ◌<◌, ◌≤◌, refl, subst, ap, sym, ◌∙◌, arith, Bool, true, false, true≢false, ◌||◌, ◌==◌, if◌then◌else◌, List, [], ◌∷◌, ◌++◌, length, Option, Some, None, Result, Ok, Err, ◌-◌, min, map}
+use Rattle.std.proofs.Common.{◌≡◌, ℕ, suc, ◌+◌, ◌<◌, ◌≤◌, refl, subst, ap, sym, ◌∙◌, arith, Bool, true, false, true≢false, ◌||◌, ◌==◌, List, [], ◌∷◌, ◌++◌, length, Option, Some, None, Result, Ok, Err, ◌-◌}
 use Rattle.std.proofs.lemmas.Bool.Decides.{nat_tests}
 use Rattle.std.specs.List.{list_any}
 use Rattle.std.specs.Option.{option_map}
 use Rattle.std.specs.Result.{is_err, OnErr}
 use Rattle.vd_num.specs.Number.{pages_of}
-use Rattle.vd_iova.specs.Space.{Space, taken_of, taken_at}
+use Rattle.vd_iova.specs.Space.{Space, taken_of}
 use Rattle.vd_model.specs.declared.memory.Want.{Want}
 use Rattle.vd_model.specs.Setting.{Setting}
 use Rattle.vd_model.specs.Acts.{Streaming}
 use Rattle.vd_model.specs.Place.{Slots, place_of, meets}
 use Rattle.vd_model.specs.RingTurns.{placed, placed_at}
 use Rattle.vd_domain.specs.declared.booking.Booked.{Booked}
-use Rattle.vd_domain.specs.Held.{Holding, AreTaken, mapping_holds}
+use Rattle.vd_domain.specs.Held.{Holding, AreTaken}
 use Rattle.vd_domain.specs.declared.streaming.Bounced.{Bounced}
 use Rattle.vd_domain.specs.Lists.{mapping_at, mappings_of}
 use Rattle.vd_domain.specs.Placing.{IsGiven, AreGiven, IsSeen, streamings, entries_of}

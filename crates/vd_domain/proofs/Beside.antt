@@ -6,8 +6,8 @@ use Rattle.vd_model.specs.Acts.{Act, Message_act, State, Bus, Queue, Disk, Node,
 use Rattle.vd_model.specs.Messages.{MessageAct}
 use Rattle.vd_model.specs.State.{StateAct, Cleared}
 use Rattle.vd_model.specs.Live.{is_bounce_live}
-use Rattle.vd_model.specs.Puts.{last_put, is_moved, put_or, address_put_if, Iova}
-use Rattle.std.proofs.Common.{ℕ, Bool, false}
+use Rattle.vd_model.specs.Puts.{last_put, put_or, address_put_if, Iova}
+use Rattle.std.proofs.Common.{ℕ, false}
 use Rattle.vd_iova.specs.Space.{Space}
 use Rattle.vd_domain.specs.Held.{Held, IsFit}
 use Rattle.vd_domain.specs.Stands.{Stands}

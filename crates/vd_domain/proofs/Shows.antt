@@ -1,8 +1,8 @@
 -- A domain after some mappings, one after another.
-use Rattle.std.proofs.Common.{◌≡◌, ℕ, suc, ◌+◌, ◌-◌, ◌*◌, ◌/◌, ◌<◌, ◌≤◌, ◌^◌, refl, subst, ap, sym, ◌∙◌, arith, Bool, true, false, ◌||◌, ◌==◌, if◌then◌else◌, List, [], ◌∷◌, ◌++◌, length, take, drop, Option, Some, None, map, append_assoc, true≢false}
+use Rattle.std.proofs.Common.{◌≡◌, ℕ, suc, ◌+◌, ◌*◌, ◌/◌, ◌<◌, ◌≤◌, ◌^◌, refl, subst, ap, sym, ◌∙◌, arith, true, ◌||◌, if◌then◌else◌, List, [], ◌∷◌, ◌++◌, length, drop, map, append_assoc}
 use Rattle.std.specs.Prelude.{is_some}
 use Rattle.std.proofs.Math.Nat.{mul-le-mul_left}
-use Rattle.std.specs.List.{list_any, slice_index}
+use Rattle.std.specs.List.{slice_index}
 use Rattle.vd_num.specs.Number.{pages_of, is_within}
 use Rattle.vd_pool.specs.Memory.{Memory}
 use Rattle.vd_iova.specs.Space.{Space}

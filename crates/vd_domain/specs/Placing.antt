@@ -1,5 +1,5 @@
 -- What some wants were given in order, each after those before it.
-use Rattle.std.specs.Prelude.{ℕ, ◌+◌, ◌*◌, ◌<◌, ◌≤◌, ◌≡◌, ◌==◌, if◌then◌else◌, List, [], ◌∷◌, ◌++◌, ◌^◌, length, true, Some}
+use Rattle.std.specs.Prelude.{ℕ, ◌+◌, ◌*◌, ◌≤◌, ◌≡◌, ◌==◌, if◌then◌else◌, List, [], ◌∷◌, ◌++◌, ◌^◌, length, true, Some}
 use Rattle.std.specs.List.{list_any}
 use Rattle.vd_num.specs.Number.{pages_of, is_within}
 use Rattle.vd_iova.specs.Space.{Space, taken_of, taken_at}

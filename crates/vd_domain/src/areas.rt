@@ -155,3 +155,27 @@ fn offset_in(len: u64, uaddr: u64, size: u64) -> Option<u64>
         None
     }
 }
+
+#[cfg(test)]
+mod tests {
+    use super::*;
+    use std::test::Fail;
+
+    #[test]
+    fn registers(rt: HostRuntime) -> Result<(), Fail> {
+        let mut pool = Pool::new(rt.alloc(), 1);
+        let mut domain = Domain::new(rt.alloc(), 2, 4, 1)?;
+        let none = domain.area_len();
+        let made = domain.new_area(0x2000);
+        let len = domain.area_len();
+        let early = domain.reg_umem(&mut pool, 0x1000_0000, 0, 0x2000);
+        let ended = domain.dereg_umem(&mut pool, 0, 0x2000);
+        domain.discard(&mut pool);
+        assert_eq!(rt; none, None);
+        assert_eq!(rt; made, Ok(()));
+        assert_eq!(rt; len, Some(0x2000));
+        assert_eq!(rt; early, Err(Errno::Inval));
+        assert_eq!(rt; ended, Err(Errno::Noent));
+        Ok(())
+    }
+}

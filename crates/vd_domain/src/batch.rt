@@ -31,10 +31,7 @@ use vd_pool::Pool;
 const NOTHING: Booked = Booked {
     number: 0,
     slot: 0,
-    pages: Pages {
-        first: 0,
-        count: 0,
-    },
+    pages: Pages { first: 0, count: 0 },
 };
 
 impl Domain {
@@ -42,7 +39,12 @@ impl Domain {
 
     /// Maps ranges of buffers in order, all of them or none; `bytes` are the ranges one after another. It answers
     /// the first number, and the others follow it.
-    pub fn map_all(&mut self, pool: &mut Pool, wants: &[Want], bytes: &[u8]) -> Result<u64, MapError>
+    pub fn map_all(
+        &mut self,
+        pool: &mut Pool,
+        wants: &[Want],
+        bytes: &[u8],
+    ) -> Result<u64, MapError>
         requires holds { Holds self.old.bounce.frames pool.old }
         requires size { pool.old.per_page ≡ self.old.bounce.per_page }
         requires some { 0 < length wants.now }
@@ -71,11 +73,26 @@ impl Domain {
         let first = self.mappings.made();
         let per_page = self.bounce.per_page() as u64;
         let low = &mut self.low;
-        match book_all(low, &mut self.mappings, pool, per_page, wants, &mut booked, 0) {
+        match book_all(
+            low,
+            &mut self.mappings,
+            pool,
+            per_page,
+            wants,
+            &mut booked,
+            0,
+        ) {
             Ok(()) => {}
             Err(error) => return Err(error),
         }
-        show_all(&mut self.bounce, &mut self.uses, pool, wants, &booked, bytes);
+        show_all(
+            &mut self.bounce,
+            &mut self.uses,
+            pool,
+            wants,
+            &booked,
+            bytes,
+        );
         self.is_shown = true;
         Ok(first)
     }
@@ -171,6 +188,44 @@ fn show_all(
     };
     let (text, bytes) = bytes.split_at(want.len as usize);
     uses.enter(given.pages);
-    show(bounce, pool, given.pages, want.dir, PAGE_SIZE * given.slot, text);
+    show(
+        bounce,
+        pool,
+        given.pages,
+        want.dir,
+        PAGE_SIZE * given.slot,
+        text,
+    );
     show_all(bounce, uses, pool, wants, booked, bytes);
+}
+
+#[cfg(test)]
+mod tests {
+    use super::*;
+    use std::test::Fail;
+    use vd_model::Dir;
+
+    #[test]
+    fn maps_two(rt: HostRuntime) -> Result<(), Fail> {
+        let mut pool = Pool::new(rt.alloc(), 1);
+        let mut domain = Domain::new(rt.alloc(), 4, 8, 1)?;
+        let wants = [
+            Want {
+                buffer: 0,
+                offset: 0,
+                len: 1,
+                dir: Dir::To,
+            },
+            Want {
+                buffer: 0,
+                offset: 1,
+                len: 2,
+                dir: Dir::To,
+            },
+        ];
+        let first = domain.map_all(&mut pool, &wants, b"abc");
+        domain.discard(&mut pool);
+        assert_eq!(rt; first, Ok(0));
+        Ok(())
+    }
 }

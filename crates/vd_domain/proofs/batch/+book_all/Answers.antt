@@ -1,8 +1,6 @@
-use Rattle.std.proofs.Common.{◌≡◌, ℕ, ◌+◌, ◌<◌, List, [], ◌∷◌, ◌++◌, Option, Some, None, ◌-◌, true, refl, ap, sym, subst, ◌∙◌, arith, false, ◌==◌}
+use Rattle.std.proofs.Common.{◌≡◌, ℕ, ◌+◌, ◌<◌, List, [], ◌∷◌, ◌++◌, Option, ◌-◌, true, ap, sym, subst, ◌∙◌, ◌==◌}
 use Rattle.std.specs.List.{list_any, slice_set}
 use Rattle.std.specs.Option.{option_map}
-use Rattle.std.proofs.lemmas.Grind.{common_steps}
-use Rattle.std.proofs.lemmas.Bool.Decides.{nat_tests}
 use Rattle.vd_num.specs.Number.{pages_of}
 use Rattle.vd_iova.specs.Space.{Space}
 use Rattle.vd_model.specs.declared.memory.Want.{Want}
@@ -11,8 +9,8 @@ use Rattle.vd_model.specs.RingTurns.{placed}
 use Rattle.std.specs.Result.{is_err}
 use Rattle.vd_domain.specs.Numbered.{Numbered}
 use Rattle.vd_domain.specs.declared.streaming.Bounced.{Bounced}
-use Rattle.vd_domain.specs.Held.{Holding, AreTaken}
-use Rattle.vd_domain.specs.Placing.{IsGiven, IsSeen}
+use Rattle.vd_domain.specs.Held.{AreTaken}
+use Rattle.vd_domain.specs.Placing.{IsGiven}
 use Rattle.vd_domain.proofs.Batches.{holding_of, none_placed, taken_next, seen_next, placed_next, err_same, err_use, err_given, first_some, one_less}
 use Rattle.vd_domain.proofs.Spans.{set_back}
 use Rattle.vd_domain.proofs.batch.+book_all.Goals as goal

@@ -1,14 +1,11 @@
-use Rattle.std.proofs.Common.{◌≡◌, ℕ, ◌+◌, ◌<◌, ◌≤◌, ◌^◌, List, [], ◌∷◌, ◌++◌, refl, ap, sym, subst, ◌∙◌, arith, false, ◌==◌, length, take, drop}
+use Rattle.std.proofs.Common.{◌≡◌, ℕ, ◌+◌, ◌<◌, ◌≤◌, ◌^◌, List, ◌∷◌, ◌++◌, refl, ap, sym, subst, ◌∙◌, arith, false, ◌==◌, length, drop}
 use Rattle.std.specs.List.{list_any}
-use Rattle.vd_iova.specs.Space.{Space}
-use Rattle.vd_bounce.specs.Bounce.{Bounce}
 use Rattle.vd_model.specs.declared.memory.Want.{Want}
-use Rattle.vd_model.specs.Setting.{Setting}
-use Rattle.vd_model.specs.Acts.{Act, Driver, Mapped, Streaming}
+use Rattle.vd_model.specs.Acts.{Driver, Mapped, Streaming}
 use Rattle.vd_model.specs.RingTurns.{map_acts}
 use Rattle.vd_domain.specs.declared.booking.Booked.{Booked}
-use Rattle.vd_domain.specs.Held.{Held, IsFit}
-use Rattle.vd_domain.specs.Handed.{AreOf, IsOf, bytes_of}
+use Rattle.vd_domain.specs.Held.{IsFit}
+use Rattle.vd_domain.specs.Handed.{AreOf, bytes_of}
 use Rattle.vd_domain.specs.Stands.{Stands}
 use Rattle.vd_domain.specs.Placing.{AreGiven, IsReady, streamings, shown, pages_met}
 use Rattle.vd_domain.proofs.Batches.{first_some, rest_some}
@@ -34,17 +31,34 @@ show_all-requires n c =
     let long : length c.args.bytes.now ≡ want.len + bytes_of wants = c.requires.text ∙ ap bytes_of all in
     let back = c.split_at.ensures.back_len in
     let met : b.pages.count + pages_met bs ≤ c.args.pool.now.spare = subst (λ (ks : List Booked). pages_met ks ≤ c.args.pool.now.spare) both c.requires.spare in
-    let left = c.show.ensures.spare in
-    (omega (arith, count), (c.show.ensures.kept.holds, (c.show.ensures.kept.size ∙ c.requires.size ∙ sym c.show.ensures.same.size, (rest_some want wants none, (omega (arith, long, back), (record {
-      domain = one_more r.domain c.show.new.map (mapping_given want b);
-      low = given.0;
-      high = r.high;
-      after = r.after;
-      bounce = refl;
-      fit = first_fit r.domain c.args.bounce.now r.bounce r.low r.high r.after c.args.uses.now r.fit want wants b bs given some c.show.new.map c.show.ensures.same c.show.ensures.frames c.enter.new.self c.enter.ensures.counts c.enter.ensures.len;
-      given = first_given r.domain c.args.bounce.now r.bounce r.low r.high r.after c.args.uses.now r.fit want wants b bs given some c.show.new.map c.show.ensures.same c.show.ensures.frames;
-      few = omega (arith, few, count);
-    }, omega (arith, met, left)))))))
+    let left = c.show.ensures.spare in (
+      omega (arith, count),
+      (
+        c.show.ensures.kept.holds,
+        (
+          c.show.ensures.kept.size ∙ c.requires.size ∙ sym c.show.ensures.same.size,
+          (
+            rest_some want wants none,
+            (
+              omega (arith, long, back),
+              (
+                record {
+                  domain = one_more r.domain c.show.new.map (mapping_given want b);
+                  low = given.0;
+                  high = r.high;
+                  after = r.after;
+                  bounce = refl;
+                  fit = first_fit r.domain c.args.bounce.now r.bounce r.low r.high r.after c.args.uses.now r.fit want wants b bs given some c.show.new.map c.show.ensures.same c.show.ensures.frames c.enter.new.self c.enter.ensures.counts c.enter.ensures.len;
+                  given = first_given r.domain c.args.bounce.now r.bounce r.low r.high r.after c.args.uses.now r.fit want wants b bs given some c.show.new.map c.show.ensures.same c.show.ensures.frames;
+                  few = omega (arith, few, count);
+                },
+                omega (arith, met, left),
+              ),
+            ),
+          ),
+        ),
+      ),
+    )
 
 pub returns-clause-fit : goal.returns-clause-fit
 returns-clause-fit n c = λ h low high after named fit told.

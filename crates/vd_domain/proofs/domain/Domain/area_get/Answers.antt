@@ -1,4 +1,4 @@
-use Rattle.std.proofs.Common.{◌≡◌, ℕ, ◌+◌, ◌<◌, ◌≤◌, length, arith, ap, ◌∙◌, []}
+use Rattle.std.proofs.Common.{◌≡◌, ℕ, ◌+◌, ◌≤◌, length, arith, ap, ◌∙◌, []}
 use Rattle.std.specs.List.{slice_index}
 use Rattle.std.specs.Prelude.{unwrap_or}
 use Rattle.vd_model.specs.Puts as puts

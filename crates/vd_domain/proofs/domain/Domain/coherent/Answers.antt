@@ -1,4 +1,4 @@
-use Rattle.std.proofs.Common.{◌≡◌, ℕ, ◌+◌, ◌-◌, ◌*◌, ◌<◌, ◌≤◌, arith, ap, sym, subst, ◌∙◌, Some, None, refl}
+use Rattle.std.proofs.Common.{◌≡◌, ◌+◌, ◌-◌, ◌*◌, ◌<◌, ◌≤◌, arith, ap, sym, subst, ◌∙◌, Some, None, refl}
 use Rattle.std.specs.Option.{option_map}
 use Rattle.vd_num.specs.Number.{pages_of}
 use Rattle.vd_num.specs.declared.number.Range.{Range}

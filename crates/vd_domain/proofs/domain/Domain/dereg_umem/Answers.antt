@@ -1,8 +1,7 @@
-use Rattle.std.proofs.Common.{◌≡◌, ◌*◌, refl, ap, sym, subst, ◌∙◌, ℕ, true, false, arith, length}
+use Rattle.std.proofs.Common.{◌≡◌, ap, sym, subst, ◌∙◌, true, arith}
 use Rattle.std.specs.Prelude.{is_some}
 use Rattle.std.proofs.lemmas.Grind.{common_steps}
 use Rattle.vd_bounce.specs.Bounce as bounce
-use Rattle.vd_model.specs.Setting.{Setting, bounce_size}
 use Rattle.vd_domain.specs.Held.{Held}
 use Rattle.vd_domain.specs.Stands.{Stands}
 use Rattle.vd_domain.specs.contracts.domain.Domain.{the_view}

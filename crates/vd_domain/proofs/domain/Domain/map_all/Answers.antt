@@ -1,11 +1,7 @@
-use Rattle.std.proofs.Common.{◌≡◌, ℕ, ◌+◌, ◌<◌, ◌≤◌, List, [], ◌++◌, Some, Err, true, false, refl, ap, sym, subst, ◌∙◌, arith, length, map, ◌==◌}
+use Rattle.std.proofs.Common.{◌≡◌, ℕ, ◌+◌, ◌<◌, List, ◌++◌, Some, Err, true, refl, ap, sym, subst, ◌∙◌, arith, length, map}
 use Rattle.std.specs.Prelude.{is_some}
-use Rattle.std.specs.List.{list_any}
 use Rattle.std.proofs.lemmas.Grind.{common_steps}
-use Rattle.vd_iova.specs.Space.{Space}
-use Rattle.vd_model.specs.declared.memory.Want.{Want}
-use Rattle.vd_model.specs.Setting.{Setting}
-use Rattle.vd_model.specs.Acts.{Act, Streaming}
+use Rattle.vd_model.specs.Acts.{Streaming}
 use Rattle.vd_model.specs.Live.{maps}
 use Rattle.vd_model.specs.Place.{taken}
 use Rattle.vd_model.specs.RingTurns.{placed, map_acts}
@@ -15,7 +11,7 @@ use Rattle.vd_domain.specs.declared.streaming.Bounced.{Bounced}
 use Rattle.vd_domain.specs.Lists.{mappings_of}
 use Rattle.vd_domain.specs.Held.{Held, IsFit, mapping_holds}
 use Rattle.vd_domain.specs.Stands.{Stands}
-use Rattle.vd_domain.specs.Placing.{AreGiven, streamings, shown}
+use Rattle.vd_domain.specs.Placing.{AreGiven, streamings}
 use Rattle.vd_domain.specs.contracts.domain.Domain.{the_view}
 use Rattle.vd_domain.proofs.Batches.{err_same, some_same, all_placed, given_long, all_mapped}
 use Rattle.vd_domain.proofs.Shows.{shown_is, seen_of}
@@ -89,10 +85,11 @@ pub returns-clause-place : goal.returns-clause-place
 returns-clause-place c = λ x acts s.
     let at = (goal.at.returns-clause-place c).After-show_all in
     let h : Held = the_view c.self.inside in
-    let t : Stands x acts h c.args.pool.now = stands_inside c.self.view_is s in
-    (c.made-first.ensures ∙ t.maps,
-    ap is_some (ap (λ (k : ℕ). placed x (taken acts) k c.args.wants.now) (sym t.maps)
-    ∙ all_placed x c.self.inside.bounce.per_page c.self.inside.low c.book_all.new.low h.maps (map mapping_holds h.live) (taken acts) c.args.wants.now c.deref.result.now
-    (t.per_page ∙ sym c.self.invariant.low_first) (t.bounce ∙ sym c.self.invariant.low_end) c.self.invariant.maps
-    (seen_of x acts h c.args.pool.now c.self.inside.low c.self.inside.high c.self.inside.uses t c.self.invariant)
-    (grind (arith, common_steps)) (all_given at)))
+    let t : Stands x acts h c.args.pool.now = stands_inside c.self.view_is s in (
+      c.made-first.ensures ∙ t.maps,
+      ap is_some (ap (λ (k : ℕ). placed x (taken acts) k c.args.wants.now) (sym t.maps)
+          ∙ all_placed x c.self.inside.bounce.per_page c.self.inside.low c.book_all.new.low h.maps (map mapping_holds h.live) (taken acts) c.args.wants.now c.deref.result.now
+          (t.per_page ∙ sym c.self.invariant.low_first) (t.bounce ∙ sym c.self.invariant.low_end) c.self.invariant.maps
+          (seen_of x acts h c.args.pool.now c.self.inside.low c.self.inside.high c.self.inside.uses t c.self.invariant)
+          (grind (arith, common_steps)) (all_given at)),
+    )

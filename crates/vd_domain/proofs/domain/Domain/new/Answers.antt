@@ -1,4 +1,4 @@
-use Rattle.std.proofs.Common.{◌/◌, ◌*◌, ◌≤◌, ◌<◌, arith}
+use Rattle.std.proofs.Common.{◌/◌, arith}
 use Rattle.vd_domain.proofs.Fits.{new_fit}
 use Rattle.vd_domain.proofs.domain.Domain.new.Goals as goal
 

@@ -1,9 +1,8 @@
-use Rattle.std.proofs.Common.{◌≡◌, ◌-◌, ◌∷◌, refl, ap, sym, subst, ◌∙◌, inl, inr, ℕ, true, false, None, arith}
+use Rattle.std.proofs.Common.{◌≡◌, ◌-◌, ◌∷◌, refl, ap, sym, subst, ◌∙◌, inl, inr, ℕ, true, None}
 use Rattle.std.specs.Prelude.{is_some}
 use Rattle.std.specs.Option.{option_map}
-use Rattle.vd_model.specs.Setting.{Setting, bounce_size}
-use Rattle.vd_model.specs.Acts.{Act, Node, Registered}
-use Rattle.vd_model.specs.Live.{registered}
+use Rattle.vd_model.specs.Setting.{bounce_size}
+use Rattle.vd_model.specs.Acts.{Node, Registered}
 use Rattle.vd_model.specs.AreaTurns.{may_register, area_start}
 use Rattle.vd_domain.specs.Held.{Held}
 use Rattle.vd_domain.specs.Stands.{Stands}

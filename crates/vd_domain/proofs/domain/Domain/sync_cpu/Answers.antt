@@ -1,19 +1,15 @@
-use Rattle.std.proofs.Common.{◌≡◌, ℕ, ◌+◌, ◌-◌, ◌*◌, ◌/◌, ◌<◌, ◌≤◌, arith, ap, sym, subst, ◌∙◌, refl, List, ◌∷◌, Some, None, Ok, Err, true, false, true≢false, length}
+use Rattle.std.proofs.Common.{◌≡◌, ◌+◌, ◌*◌, ◌<◌, ◌≤◌, arith, ap, sym, ◌∙◌, refl, Some, None, true, false, true≢false, length}
 use Rattle.std.proofs.lemmas.Grind.{common_steps}
 use Rattle.vd_num.specs.Number.{pages_of}
-use Rattle.vd_bounce.specs.Bounce.{bounce_size, page_size, is_present}
 use Rattle.vd_iova.specs.Space.{taken_at}
-use Rattle.vd_model.specs.Acts.{Streaming, Driver, Synced_device}
-use Rattle.vd_model.specs.Puts.{is_from_device, is_to_device, bus_bytes}
+use Rattle.vd_model.specs.Acts.{Streaming}
+use Rattle.vd_model.specs.Puts.{is_from_device, bus_bytes}
 use Rattle.vd_model.specs.Live.{iova_of}
-use Rattle.vd_domain.specs.declared.domain.SyncError.TheVariants.{NotLive, WrongDir}
 use Rattle.vd_domain.specs.Lists.{mapping_at, mappings_of, regions_of}
-use Rattle.vd_domain.specs.Held.{Held, mapping_of}
-use Rattle.vd_domain.specs.Stands.{Stands}
-use Rattle.vd_domain.specs.Handed.{IsOf}
+use Rattle.vd_domain.specs.Held.{mapping_of}
 use Rattle.vd_domain.proofs.Entries.{kept_found, kept_missing}
 use Rattle.vd_domain.proofs.Fits.{live_inside, live_there}
-use Rattle.vd_domain.proofs.Steps.{fetched, synced}
+use Rattle.vd_domain.proofs.Steps.{fetched}
 use Rattle.vd_domain.proofs.Opened.{stands_inside, found_outside, not_found, same_found}
 use Rattle.vd_domain.proofs.domain.Domain.sync_cpu.Goals as goal
 use Rattle.vd_domain.proofs.domain.Domain.sync_cpu.Goals.{In-Some, In-None}

@@ -1,4 +1,4 @@
-use Rattle.std.proofs.Common.{◌≡◌, ◌<◌, ◌≤◌, ◌+◌, ◌-◌, ◌++◌, ◌∷◌, ap, sym, subst, ◌∙◌, ℕ, List, [], arith, filter, ◌==◌, not}
+use Rattle.std.proofs.Common.{◌≡◌, ◌<◌, ◌+◌, ◌-◌, ◌++◌, ◌∷◌, ap, sym, subst, ◌∙◌, ℕ, List, [], arith, filter, ◌==◌, not}
 use Rattle.vd_domain.specs.Numbered.{Numbered, IsRising}
 use Rattle.vd_domain.proofs.Rising.{removed}
 use Rattle.vd_domain.proofs.Undoing.{rising_cut, without_last}
