@@ -14,3 +14,4 @@ pub mod Deeds
 pub mod Served
 pub mod Waits
 pub mod Plays
+mod Conditions

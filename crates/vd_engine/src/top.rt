@@ -6,6 +6,7 @@ ghost use Rattle.vd_model.specs.Setting.{Setting};
 ghost use Rattle.vd_model.specs.Served.{served_reading};
 ghost use Rattle.vd_model.specs.Replies.{reply_line};
 ghost use Rattle.vd_model.specs.Out.{stop_of, At_the_end, good_lines, history_after};
+ghost use Rattle.vd_laws.specs.Runs.{IsAddressed, IsWhole};
 ghost use Rattle.vd_laws.specs.Laws.{Laws};
 ghost use Rattle.vd_options.specs.Words.{Sizes, asked_sizes};
 ghost use Rattle.vd_engine.specs.Stands.{plain};
@@ -60,8 +61,10 @@ pub fn script_top<S: Source, K: Sink, I: Image>(
         EndsAt (plain x) text (stop_of_status result.status) result.line result.lines_done (S.left source.new) (K.held sink.old) (K.held sink.new) }
 
     // The laws of the run whose replies these are: what a daemon read and where it came from, what changed a driver's memory, what became of
-    // each message, that no other device's steps show.
-    ensures laws { (x : Setting) (text : List ℕ) (n : ℕ) → S.left source.old ≡ Some text → Laws (plain x) (history_after [] 1 [] (take n (good_lines text))) }
+    // each message, that no other device's steps show. The words' own sizes meet the laws' two conditions.
+    ensures laws { (sizes : Sizes) (x : Setting) (text : List ℕ) (n : ℕ) → asked_sizes (map string_bytes words.now.items) ≡ Some sizes →
+        x.iova ≡ sizes.iova → S.left source.old ≡ Some text →
+        IsAddressed (plain x) × IsWhole (plain x) × Laws (plain x) (history_after [] 1 [] (take n (good_lines text))) }
 
     // A fault of the outside is told only where there was one.
     ensures source_failed { result.status ≡ 3 → Rose (S.faults source.old) (S.faults source.new) }
