@@ -10,6 +10,7 @@ mod access;
 mod areas;
 mod batch;
 mod booking;
+mod coherent;
 mod domain;
 mod numbered;
 mod pages;
