@@ -84,7 +84,8 @@ impl<T: Copy + Drop> Numbered<T> {
     /// Takes the value that was added last away, as if it had not been added.
     pub fn undo(&mut self)
         requires { 0 < self.old.made }
-        ensures { (es : List (ℕ × T)) (value : T) → self.old.entries ≡ es ++ (self.old.made - 1, value) ∷ [] → self.new ≡ record { entries = es; made = self.old.made - 1 } }
+        ensures rest { self.new ≡ record { entries = filter (λ e. not (e.0 == self.old.made - 1)) self.old.entries; made = self.old.made - 1 } }
+        ensures last { (es : List (ℕ × T)) (value : T) → self.old.entries ≡ es ++ (self.old.made - 1, value) ∷ [] → self.new ≡ record { entries = es; made = self.old.made - 1 } }
     {
         let number = self.made - 1;
         self.map.remove(&number);
