@@ -1,16 +1,18 @@
 -- A domain with other coherent regions, and the range that one of them takes.
-use Rattle.std.proofs.Common.{◌≡◌, ℕ, ◌+◌, ◌-◌, ◌*◌, ◌<◌, ◌≤◌, ap, sym, subst, ◌∙◌, List, Some, if◌then◌else◌, ◌==◌, length}
+use Rattle.std.proofs.Common.{◌≡◌, ℕ, ◌+◌, ◌-◌, ◌<◌, ◌≤◌, ap, sym, subst, ◌∙◌, List, Some, if◌then◌else◌, ◌==◌, length, Option, None, arith}
 use Rattle.std.specs.List.{slice_set}
 use Rattle.vd_pool.specs.Memory.{Memory, Grows}
+use Rattle.vd_num.specs.Number.{pages_of}
 use Rattle.vd_bounce.specs.Bounce as b
 use Rattle.vd_iova.specs.Space.{Space, taken_of, taken_at}
 use Rattle.vd_model.specs.Setting.{Setting, bounce_size}
 use Rattle.vd_model.specs.Acts.{Act, Coherent}
 use Rattle.vd_model.specs.Place.{place_of}
-use Rattle.vd_domain.specs.Held.{Held, IsFit, Holding, coherent_of}
+use Rattle.vd_domain.specs.Held.{Held, IsFit, bounce_slots, coherent_of}
 use Rattle.vd_domain.specs.Stands.{Stands}
 use Rattle.vd_domain.proofs.Holdings.{Gains, place_clear}
 use Rattle.vd_domain.proofs.Steps.{grown_value}
+use Rattle.vd_domain.proofs.Ended.{taken_is, begins}
 
 -- ---- with other regions
 
@@ -19,6 +21,36 @@ stands_regions {x} {acts} {m} h l k i j p q s = subst (λ (t : List Coherent). S
 
 pub fit_regions : {low high : Space} {uses : List ℕ} (h : Held) (l k : List Coherent) (i j : ℕ) → l ≡ k → i ≡ j → IsFit (record h { regions = k; made = j }) low high uses → IsFit (record h { regions = l; made = i }) low high uses
 fit_regions {low} {high} {uses} h l k i j p q s = subst (λ (t : List Coherent). IsFit (record h { regions = t; made = i }) low high uses) (sym p) (subst (λ n. IsFit (record h { regions = k; made = n }) low high uses) (sym q) s)
+
+pub region_inside_of : {h k : Held} (a : ℕ) (r : Coherent) → h ≡ k → coherent_of k a ≡ Some r → coherent_of h a ≡ Some r
+region_inside_of a r e f = subst (λ (t : Held). coherent_of t a ≡ Some r) (sym e) f
+
+pub region_outside : {h k : Held} (a : ℕ) (o : Option Coherent) → h ≡ k → coherent_of h a ≡ o → coherent_of k a ≡ o
+region_outside a o e f = subst (λ (t : Held). coherent_of t a ≡ o) e f
+
+pub no_region : {r : Coherent} → None ≡ Some r → ⊥
+no_region e = cc
+
+pub same_region : (h : Held) (a : ℕ) (r k : Coherent) → coherent_of h a ≡ Some r → coherent_of h a ≡ Some k → r ≡ k
+same_region h a r k e f = let both : Some r ≡ Some k = sym e ∙ f in cc
+
+-- where a live region lies in coherent memory
+pub record RegionLies (h : Held) (high : Space) (r : Coherent) : Type 0 where
+  pub begins : bounce_slots h ≤ r.slot
+  pub small : r.slot ≤ 65536
+  pub range : r.slot - bounce_slots h + pages_of r.len ≤ length h.shared.frames
+  pub taken : 0 < taken_at high r.slot
+
+pub region_lies : (h : Held) (low high : Space) (uses : List ℕ) → IsFit h low high uses → (a : ℕ) (r : Coherent) → coherent_of h a ≡ Some r → RegionLies h high r
+region_lies h low high uses fit a r e =
+    let t = taken_is h low high uses fit a r e in
+    let from = begins h low high uses fit a r e in
+    let some = t.some in
+    let to = t.high in
+    let top = fit.high_end in
+    let small = fit.small in
+    let taken = t.taken in
+    record { begins = from; small = omega arith; range = omega arith; taken = omega arith }
 
 -- ---- what a take gives
 

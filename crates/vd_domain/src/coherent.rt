@@ -36,6 +36,7 @@ impl Domain {
             → place_of (taken acts) (pages_of len) x.bounce x.iova ≡ None }
         ensures empty { result ≡ Err MapError.Empty ↔ (len ≡ 0) }
         ensures err { (x : Setting) (acts : List Act) (m : Memory) → Stands x acts self.old m → OnErr result (Stands x acts self.new m) }
+        ensures same { OnErr result (self.new ≡ record self.old { store = self.new.store }) }
         ensures bounce { self.new.bounce ≡ self.old.bounce }
         ensures counts { (self.new.maps ≡ self.old.maps) × (self.new.made ≤ self.old.made + 1) }
     {

@@ -1,21 +1,18 @@
-use Rattle.std.proofs.Common.{◌≡◌, ℕ, ◌+◌, ◌-◌, ◌*◌, ◌/◌, ◌<◌, ◌≤◌, arith, ap, sym, subst, ◌∙◌, refl, List, [], ◌∷◌, ◌++◌, Some, ◌||◌, length}
+use Rattle.std.proofs.Common.{◌≡◌, ℕ, ◌+◌, ◌-◌, ◌*◌, ◌/◌, ◌<◌, ◌≤◌, arith, ap, sym, subst, ◌∙◌, [], ◌∷◌, ◌++◌, Some, ◌||◌, length}
 use Rattle.std.specs.Prelude.{is_some}
-use Rattle.std.specs.List.{slice_set}
 use Rattle.vd_num.specs.Number.{is_within, pages_of}
-use Rattle.vd_pool.specs.Memory.{Memory}
-use Rattle.vd_bounce.specs.Bounce.{Place, value}
 use Rattle.vd_bounce.specs.Frames.{frame_of}
-use Rattle.vd_iova.specs.Space.{Space, taken_of}
+use Rattle.vd_iova.specs.Space.{taken_of}
 use Rattle.vd_model.specs.Acts.{Coherent, Driver, Region_made}
 use Rattle.vd_model.specs.Place.{place_of}
 use Rattle.vd_domain.specs.Numbered.{Numbered}
 use Rattle.vd_domain.specs.declared.streaming.Extent.{Extent}
+use Rattle.vd_domain.specs.declared.pages.Pages.{Pages}
 use Rattle.vd_domain.specs.Lists.{region_at, regions_of}
-use Rattle.vd_domain.specs.Held.{Held, IsFit, region_holds, bounce_slots}
+use Rattle.vd_domain.specs.Held.{Held, region_holds, bounce_slots}
 use Rattle.vd_domain.specs.Stands.{Stands}
 use Rattle.vd_domain.specs.contracts.domain.Domain.{the_view}
 use Rattle.vd_domain.proofs.Entries.{mapped_more}
-use Rattle.vd_domain.proofs.Spans.{set_back}
 use Rattle.vd_domain.proofs.Holdings.{Gains}
 use Rattle.vd_domain.proofs.Fits.{gained_fit}
 use Rattle.vd_domain.proofs.Steps.{high_place, gained, grown_value}
@@ -49,9 +46,7 @@ framed : (c : After-hold) (p : ℕ) → p < length c.self.inside.shared.frames �
     ≡ (is_within (c.in-Ok.slot - c.self.inside.bounce.per_page * length c.self.inside.bounce.frames) (pages_of c.args.len) p || is_some (frame_of c.self.inside.shared.frames p))
 framed c p below =
     c.hold.ensures.frames p below
-    ∙ ap (λ n. is_within (c.in-Ok.slot - c.per_page.result * c.pages.result) n p || is_some (frame_of c.self.inside.shared.frames p)) c.pages-n.ensures.value
-    ∙ ap (λ g. is_within (c.in-Ok.slot - g * c.pages.result) (pages_of c.args.len) p || is_some (frame_of c.self.inside.shared.frames p)) c.per_page.ensures.value
-    ∙ ap (λ k. is_within (c.in-Ok.slot - c.self.inside.bounce.per_page * k) (pages_of c.args.len) p || is_some (frame_of c.self.inside.shared.frames p)) c.pages.ensures
+    ∙ ap (λ (q : Pages). is_within q.first q.count p || is_some (frame_of c.self.inside.shared.frames p)) c.pages_in-pages.ensures
 
 pub invariant_of-self-in-Some : goal.invariant_of-self-in-Some
 invariant_of-self-in-Some c =
