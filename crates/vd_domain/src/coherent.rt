@@ -1,25 +1,31 @@
 //! Coherent regions: memory that a device's driver and its daemon share.
 
-ghost use Rattle.std.specs.Prelude.{◌≡◌, ◌+◌, ◌-◌, ◌*◌, ◌/◌, ◌<◌, ◌≤◌, ◌^◌, ◌↔◌, ◌&&◌, not, ℕ, List, ◌∷◌, length, if◌then◌else◌, true, is_some, Some, None, IfOk, OnErr, IsErr};
+ghost use Rattle.std.specs.Prelude.{◌≡◌, ◌+◌, ◌-◌, ◌*◌, ◌/◌, ◌<◌, ◌≤◌, ◌^◌, ◌↔◌, ◌&&◌, not, ℕ, List, ◌∷◌, length, if◌then◌else◌, true, is_some, Some, None, IfOk, OnErr, IsErr, MatchResult, ◌⊎◌, map};
+ghost use Rattle.std.specs.List.{All};
 ghost use Rattle.vd_num.specs.Number.{is_within, pages_of};
 ghost use Rattle.vd_pool.specs.Memory.{Memory};
 ghost use Rattle.vd_model.specs.Setting.{Setting};
 ghost use Rattle.vd_model.specs.Acts.{Act, Driver, Coherent, Region_made, Region_freed};
 ghost use Rattle.vd_model.specs.Live.{regions};
+ghost use Rattle.vd_model.specs.AreaTurns.{daemon_regions, first_region, region_of};
 ghost use Rattle.vd_model.specs.Place.{place_of, taken};
 ghost use Rattle.vd_bounce.specs.Frames.{frame_of, Holds, Keeps};
 ghost use Rattle.vd_bounce.specs.Bounce.{Iova, SameShape, page_size, value};
 ghost use Rattle.vd_domain.specs.Held.{bounce_slots, coherent_of, has_slot};
+ghost use Rattle.vd_domain.specs.Lists.{region_at, regions_of};
+ghost use Rattle.vd_domain.specs.Lookup.{Lies, joined};
 ghost use Rattle.vd_domain.specs.Handed.{coherent_made};
 
+use crate::access::end_of;
 use crate::booking::enroll;
 use crate::domain::{Domain, NotLive};
 use crate::pages::{Pages, hold};
 use crate::streaming::Extent;
+use std::collections::BTreeMap;
 use vd_bounce::BounceMap;
 use vd_iova::Full;
-use vd_model::{MapError, Mapping};
-use vd_num::{PAGE_SIZE, pages};
+use vd_model::{MapError, Mapping, Region};
+use vd_num::{Errno, PAGE_SIZE, Range, pages};
 use vd_pool::Pool;
 
 impl Domain {
@@ -102,6 +108,70 @@ impl Domain {
         release(&mut self.shared, &mut self.store, pages);
         self.high.give(region.slot);
         self.regions.undo();
+    }
+
+    /// The region of least start that overlaps a range.
+    pub fn lookup(&self, range: Range) -> Result<Region, Errno>
+        ensures found { (x : Setting) (acts : List Act) (m : Memory) → Stands x acts self.now m → MatchResult result
+            (λ r. (range.start ≤ range.last) × (first_region (daemon_regions x acts) range.start range.last ≡ Some r))
+            (λ e. (e ≡ Errno.Inval) × ((range.last < range.start) ⊎ (first_region (daemon_regions x acts) range.start range.last ≡ None))) }
+    {
+        if range.last < range.start {
+            return Err(Errno::Inval);
+        }
+        let end = end_of(&self.bounce);
+        // It begins at 0, so no region that overlaps the range starts below it.
+        if self.is_shown && range.start < end {
+            return Ok(Region {
+                start: 0,
+                last: end - 1,
+                offset: 0,
+                perm: 3,
+            });
+        }
+        match first_in(self.regions.by_number(), range) {
+            Some(region) => Ok(region),
+            None => Err(Errno::Inval),
+        }
+    }
+}
+
+/// The coherent region of least start that overlaps a range.
+fn first_in(extents: &BTreeMap<u64, Extent>, range: Range) -> Option<Region>
+    requires { All (λ e. Lies e.1) extents.now.entries }
+    ensures { result ≡ first_region (map region_of (regions_of extents.now.entries)) range.start range.last }
+{
+    let mut lowest = None;
+    for (_number, extent) in extents {
+        let region = whole(*extent);
+        if region.start <= range.last && range.start <= region.last {
+            lowest = lower(lowest, region);
+        }
+    }
+    lowest
+}
+
+/// The region of an extent, in whole slots.
+fn whole(extent: Extent) -> Region
+    requires { Lies extent }
+    ensures { (number : ℕ) → result ≡ region_of (region_at (number, extent)) }
+{
+    let start = PAGE_SIZE * extent.slot;
+    Region {
+        start,
+        last: start + PAGE_SIZE * pages(extent.len) - 1,
+        offset: start,
+        perm: 3,
+    }
+}
+
+/// The lower of two regions, the first where they start at the same address.
+fn lower(first: Option<Region>, region: Region) -> Option<Region>
+    ensures { result ≡ joined first (Some region) }
+{
+    match first {
+        Some(first) if first.start <= region.start => Some(first),
+        _ => Some(region),
     }
 }
 

@@ -74,6 +74,13 @@ impl<T: Copy + Drop> Numbered<T> {
         self.map.get(&number).copied()
     }
 
+    /// The values by their numbers.
+    pub fn by_number(&self) -> &BTreeMap<u64, T>
+        ensures { result.now.entries ≡ self.now.entries }
+    {
+        &self.map
+    }
+
     /// Takes the value of this number away.
     pub fn remove(&mut self, number: u64)
         ensures { self.new ≡ record self.old { entries = filter (λ e. not (e.0 == number)) self.old.entries } }
