@@ -11,10 +11,6 @@ use Rattle.vd_domain.specs.Held.{Holding, IsTaken, region_holds}
 use Rattle.vd_domain.specs.Lists.{region_at, regions_of}
 use Rattle.vd_domain.specs.Lookup.{Lies, joined}
 
-pub joined_none : (o : Option Region) → joined o None ≡ o
-joined_none None = refl
-joined_none (Some r) = refl
-
 -- it doesn't matter which two are compared first
 pub joined_lower : (first : Option Region) (r : Region) (o : Option Region) → joined (joined first (Some r)) o ≡ joined first (Some (lower r o))
 joined_lower None r o = refl
@@ -61,15 +57,6 @@ next_hit start last first r rs hit =
 pub next_miss : (start last : ℕ) (first : Option Region) (r : Region) (rs : List Region) → overlaps start last r ≡ false
     → joined first (first_region rs start last) ≡ joined first (first_region (r ∷ rs) start last)
 next_miss start last first r rs miss = sym (ap (λ b. joined first (lowest (cond b (r ∷ filter (overlaps start last) rs) (filter (overlaps start last) rs)))) miss)
-
--- what lies at 0 and overlaps the range is the lowest
-pub lowest_first : (start last end : ℕ) (r : Region) (rs : List Region) → r.start ≡ 0 → overlaps start last r ≡ true → first_region (r ∷ rs) start last ≡ Some r
-lowest_first start last end r rs zero hit =
-    ap (λ b. lowest (cond b (r ∷ filter (overlaps start last) rs) (filter (overlaps start last) rs))) hit
-    ∙ ap (λ k. Some k) (by (lowest (filter (overlaps start last) rs))) where
-      by : (o : Option Region) → lower r o ≡ r
-      by None = refl
-      by (Some s) = let below : nat_le r.start s.start ≡ true = grind (arith, nat_tests, zero) in ap (λ k. if k then r else s) below
 
 -- ---- the live regions lie in the space
 

@@ -1,5 +1,5 @@
 -- Looking up coherent regions.
-use Rattle.std.specs.Prelude.{ℕ, ◌+◌, ◌<◌, ◌≤◌, Option, Some, None}
+use Rattle.std.specs.Prelude.{◌+◌, ◌<◌, ◌≤◌, Option, Some, None}
 use Rattle.vd_num.specs.Number.{pages_of}
 use Rattle.vd_model.specs.declared.memory.Region.{Region}
 use Rattle.vd_model.specs.AreaTurns.{lower}

@@ -38,8 +38,8 @@ impl Domain {
             → IfOk result (λ r. Stands x (Driver (Region_made (coherent_made r len)) ∷ acts) self.new m) }
         ensures place { (x : Setting) (acts : List Act) (m : Memory) → Stands x acts self.old m → IfOk result (λ r.
             (r.number ≡ regions acts) × (r.iova ≡ 4096 * (r.iova / 4096)) × (place_of (taken acts) (pages_of len) x.bounce x.iova ≡ Some (r.iova / 4096))) }
-        ensures full { (x : Setting) (acts : List Act) (m : Memory) → Stands x acts self.old m → result ≡ Err MapError.NoSpace
-            → place_of (taken acts) (pages_of len) x.bounce x.iova ≡ None }
+        ensures full { (x : Setting) (acts : List Act) (m : Memory) → Stands x acts self.old m → 0 < len
+            → result ≡ Err MapError.NoSpace ↔ (place_of (taken acts) (pages_of len) x.bounce x.iova ≡ None) }
         ensures empty { result ≡ Err MapError.Empty ↔ (len ≡ 0) }
         ensures err { (x : Setting) (acts : List Act) (m : Memory) → Stands x acts self.old m → OnErr result (Stands x acts self.new m) }
         ensures same { OnErr result (self.new ≡ record self.old { store = self.new.store }) }

@@ -1,10 +1,12 @@
-use Rattle.std.proofs.Common.{◌≡◌, ℕ, ◌+◌, ◌-◌, ◌*◌, ◌/◌, ◌<◌, ◌≤◌, arith, ap, sym, subst, ◌∙◌, [], ◌∷◌, ◌++◌, Some, ◌||◌, length}
+use Rattle.std.proofs.Common.{◌≡◌, ℕ, refl, List, ◌+◌, ◌-◌, ◌*◌, ◌/◌, ◌<◌, ◌≤◌, arith, ap, sym, subst, ◌∙◌, [], ◌∷◌, ◌++◌, Some, None, ◌||◌, length}
 use Rattle.std.specs.Prelude.{is_some}
 use Rattle.vd_num.specs.Number.{is_within, pages_of}
+use Rattle.vd_pool.specs.Memory.{Memory}
 use Rattle.vd_bounce.specs.Frames.{frame_of}
 use Rattle.vd_iova.specs.Space.{taken_of}
-use Rattle.vd_model.specs.Acts.{Coherent, Driver, Region_made}
-use Rattle.vd_model.specs.Place.{place_of}
+use Rattle.vd_model.specs.Setting.{Setting}
+use Rattle.vd_model.specs.Acts.{Act, Coherent, Driver, Region_made}
+use Rattle.vd_model.specs.Place.{place_of, taken}
 use Rattle.vd_domain.specs.Numbered.{Numbered}
 use Rattle.vd_domain.specs.declared.streaming.Extent.{Extent}
 use Rattle.vd_domain.specs.declared.pages.Pages.{Pages}
@@ -22,9 +24,31 @@ use Rattle.vd_domain.proofs.domain.Domain.alloc_coherent.Goals as goal
 use Rattle.vd_domain.proofs.domain.Domain.alloc_coherent.Goals.{In-Some, In-Ok, After-hold}
 
 pub returns-in-Err-clause-full : goal.returns-in-Err-clause-full
-returns-in-Err-clause-full c = λ x acts m s e.
+returns-in-Err-clause-full c = λ x acts m s some. (
+  (λ e. sym (high_place x acts _ _ (stands_inside c.self.view_is s) _ _ _ c.self.invariant (pages_of c.args.len))
+      ∙ ap (λ n. place_of (taken_of c.self.inside.high) n c.self.inside.high.first c.self.inside.high.«end») (sym c.pages-n.ensures.value) ∙ sym c.in-Err.ensures.place),
+  (λ none. refl),
+)
+
+-- the place that was taken is the one that the acts leave
+placed : (c : In-Ok) (x : Setting) (acts : List Act) (m : Memory) → Stands x acts c.args.self.now m → place_of (taken acts) (pages_of c.args.len) x.bounce x.iova ≡ Some c.in-Ok.slot
+placed c x acts m s =
     sym (high_place x acts _ _ (stands_inside c.self.view_is s) _ _ _ c.self.invariant (pages_of c.args.len))
-    ∙ ap (λ n. place_of (taken_of c.self.inside.high) n c.self.inside.high.first c.self.inside.high.«end») (sym c.pages-n.ensures.value) ∙ sym c.in-Err.ensures.place
+    ∙ ap (λ n. place_of (taken_of c.self.inside.high) n c.self.inside.high.first c.self.inside.high.«end») (sym c.pages-n.ensures.value)
+    ∙ sym c.in-Ok.ensures.place
+
+not_placed : {k : ℕ} → Some k ≡ None → ⊥
+not_placed e = cc
+
+pub returns-in-Some-clause-full : goal.returns-in-Some-clause-full
+returns-in-Some-clause-full c = λ x acts m s some.
+    let at = (goal.at.returns-in-Some-clause-full c).In-Ok in
+    ((λ e. absurd (let no = e in cc)), (λ none. absurd (not_placed (sym (placed at x acts m s) ∙ none))))
+
+pub returns-in-None-clause-full : goal.returns-in-None-clause-full
+returns-in-None-clause-full c = λ x acts m s some.
+    let at = (goal.at.returns-in-None-clause-full c).In-Ok in
+    ((λ e. absurd (let no = e in cc)), (λ none. absurd (not_placed (sym (placed at x acts m s) ∙ none))))
 
 abbrev made_region : (c : In-Some) → Coherent
 made_region c = region_at (c.in-Some.number, record { slot = c.in-Ok.slot; len = c.args.len })
@@ -76,9 +100,7 @@ returns-in-Some-clause-place c = λ x acts m s.
     let back : c.in-Ok.slot ≡ 4096 * c.in-Ok.slot / 4096 = omega arith in (
       c.in-Some.ensures.some.0 ∙ held.made,
       ap (λ k. 4096 * k) back,
-      sym (high_place x acts _ _ held _ _ _ c.self.invariant (pages_of c.args.len))
-          ∙ ap (λ n. place_of (taken_of c.self.inside.high) n c.self.inside.high.first c.self.inside.high.«end») (sym c.pages-n.ensures.value)
-          ∙ sym c.in-Ok.ensures.place ∙ ap (λ k. Some k) back,
+      placed (goal.at.returns-in-Some-clause-place c).In-Ok x acts m s ∙ ap (λ k. Some k) back,
     )
 
 pub returns-in-None-clause-err : goal.returns-in-None-clause-err
