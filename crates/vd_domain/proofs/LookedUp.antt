@@ -1,13 +1,12 @@
 -- The lowest of the regions that overlap a range, found one after another.
-use Rattle.std.proofs.Common.{◌≡◌, ℕ, ◌+◌, ◌<◌, ◌≤◌, ◌⊎◌, inl, inr, Bool, true, false, cond, refl, ap, sym, ◌∙◌, arith, Option, None, Some, nat_le, ◌&&◌, if◌then◌else◌, List, [], ◌∷◌, ◌++◌, map, filter, All}
-use Rattle.std.proofs.lemmas.Bool.Decides.{nat_tests, leb_tells}
+use Rattle.std.proofs.Common.{◌≡◌, ℕ, ◌<◌, ◌≤◌, Bool, true, false, cond, refl, ap, sym, ◌∙◌, arith, Option, None, Some, nat_le, ◌&&◌, if◌then◌else◌, List, [], ◌∷◌, map, filter, All}
+use Rattle.std.proofs.lemmas.Bool.Decides.{nat_tests}
 use Rattle.std.proofs.lemmas.List.Elements.{All-cons, All-head, All-tail}
-use Rattle.vd_num.specs.Number.{pages_of}
 use Rattle.vd_iova.specs.Space.{Space}
 use Rattle.vd_model.specs.declared.memory.Region.{Region}
 use Rattle.vd_model.specs.AreaTurns.{lower, lowest, overlaps, first_region}
 use Rattle.vd_domain.specs.declared.streaming.Extent.{Extent}
-use Rattle.vd_domain.specs.Held.{Holding, IsTaken, region_holds}
+use Rattle.vd_domain.specs.Held.{IsTaken, region_holds}
 use Rattle.vd_domain.specs.Lists.{region_at, regions_of}
 use Rattle.vd_domain.specs.Lookup.{Lies, joined}
 

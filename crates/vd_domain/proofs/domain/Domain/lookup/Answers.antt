@@ -1,4 +1,4 @@
-use Rattle.std.proofs.Common.{◌≡◌, ℕ, ◌+◌, ◌≤◌, List, subst, sym, ◌∙◌, arith}
+use Rattle.std.proofs.Common.{ℕ, List, subst, sym, arith}
 use Rattle.std.specs.List.{All}
 use Rattle.vd_domain.specs.declared.streaming.Extent.{Extent}
 use Rattle.vd_domain.specs.Lookup.{Lies}
