@@ -1,9 +1,9 @@
 -- What is true of each domain stays so: after a map, an unmap and a write.
-use Rattle.std.proofs.Common.{◌≡◌, ℕ, zero, suc, replicate, ◌+◌, ◌-◌, ◌*◌, ◌/◌, ◌<◌, ◌≤◌, inl, inr, refl, subst, ap, sym, ◌∙◌, arith, Bool, true, false, ◌&&◌, ◌||◌, not, nat_lt, if◌then◌else◌, ◌==◌, List, [], ◌∷◌, ◌++◌, length, Option, Some, None, map, filter, find}
+use Rattle.std.proofs.Common.{◌≡◌, ℕ, zero, suc, replicate, ◌+◌, ◌-◌, ◌*◌, ◌/◌, ◌<◌, ◌≤◌, inl, inr, refl, subst, ap, sym, ◌∙◌, arith, Bool, true, false, ◌&&◌, ◌||◌, not, nat_lt, if◌then◌else◌, ◌==◌, List, [], ◌∷◌, ◌++◌, length, Option, Some, None, map, filter, find, nat_le, ◌⊎◌}
 use Rattle.std.specs.Prelude.{is_some, unwrap_or}
 use Rattle.std.specs.List.{list_any, slice_index}
 use Rattle.std.specs.Option.{option_map}
-use Rattle.std.proofs.lemmas.Bool.Decides.{leb_tells}
+use Rattle.std.proofs.lemmas.Bool.Decides.{nat_tests, leb_tells}
 use Rattle.std.proofs.lemmas.List.{get_or_past}
 use Rattle.vd_num.specs.Number.{is_within, pages_of}
 use Rattle.vd_pool.specs.Memory.{Memory}
@@ -19,8 +19,8 @@ use Rattle.vd_domain.specs.declared.streaming.Bounced.{Bounced}
 use Rattle.vd_domain.specs.declared.streaming.Extent.{Extent}
 use Rattle.vd_domain.specs.Lists.{mappings_of, regions_of}
 use Rattle.vd_domain.proofs.Entries.{mapped_more, mapped_fewer, mapped_found}
-use Rattle.vd_domain.proofs.Holdings.{Gains, Loses, taken_more, taken_fewer, held_is}
-use Rattle.vd_domain.proofs.Present.{page_below, framed_present, address_meets}
+use Rattle.vd_domain.proofs.Holdings.{any_more, Gains, Loses, taken_more, taken_fewer, held_is}
+use Rattle.vd_domain.proofs.Present.{held_present, page_below, framed_present, address_meets}
 use Rattle.vd_domain.proofs.Counts.{count_map, count_more, count_fewer, count_found}
 
 -- a test of pages on mappings is one on what they hold
@@ -225,6 +225,68 @@ module _ (h : Held) (low high : Space) (uses : List ℕ) (fit : IsFit h low high
   } where
     slots : b.per_page * length b.frames ≡ bounce_slots h
     slots = ap (λ g. g * length b.frames) same.size ∙ ap (λ n. h.bounce.per_page * n) same.pages
+
+  -- ---- one region more
+
+  pub gained_fit : (r : Coherent) (s : Bounce) (store : Memory) (after : Space) → r.number ≡ h.made → 0 < pages_of r.len → SameShape h.shared s → Holds s.frames store → store.per_page ≡ h.store.per_page
+      → Gains (region_holds r) high after
+      → ((p : ℕ) → p < length h.shared.frames → is_some (frame_of s.frames p) ≡ (is_within (r.slot - bounce_slots h) (pages_of r.len) p || is_some (frame_of h.shared.frames p)))
+      → IsFit (record h { shared = s; store = store; regions = h.regions ++ r ∷ []; made = h.made + 1 }) low after uses
+  gained_fit r s store after number some same holds size gains frames = record {
+    some = fit.some;
+    few = fit.few;
+    pages = fit.pages;
+    room = fit.room;
+    low_first = fit.low_first;
+    low_end = fit.low_end;
+    high_first = gains.first ∙ fit.high_first;
+    high_end = gains.top ∙ fit.high_end ∙ ap (λ n. bounce_slots h + n) (sym same.pages);
+    small = subst (λ n. bounce_slots h + n ≤ 65536) (sym same.pages) fit.small;
+    maps = fit.maps;
+    regions = subst (λ (hs : List Holding). AreTaken after (h.made + 1) hs) (sym (mapped_more region_holds h.regions r)) (taken_more high after h.made (map region_holds h.regions) (region_holds r) fit.regions number some gains);
+    each = fit.each;
+    count = fit.count;
+    most = fit.most;
+    framed = fit.framed;
+    slots = same.size ∙ fit.slots;
+    plain = same.user ∙ fit.plain;
+    store = holds;
+    size = size ∙ fit.size;
+    shown = λ p. by p (leb_tells (length h.shared.frames) p) ∙ sym (any_more (has_slot (bounce_slots h + p)) h.regions (r ∷ []));
+  } where
+    low_slot : bounce_slots h ≤ r.slot
+    low_slot = let low = gains.low in let first = fit.high_first in omega arith
+
+    top_slot : r.slot + pages_of r.len ≤ bounce_slots h + length h.shared.frames
+    top_slot = let high = gains.high in let top = fit.high_end in omega arith
+
+    shifted : (n slot base p : ℕ) → base ≤ slot → is_within (slot - base) n p ≡ is_within slot n (base + p)
+    shifted n slot base p le = grind (arith, nat_tests)
+
+    turned : (w t : Bool) → (w || t) ≡ (t || (w || false))
+    turned true true = refl
+    turned true false = refl
+    turned false true = refl
+    turned false false = refl
+
+    by : (p : ℕ) → ((nat_le (length h.shared.frames) p ≡ true) × (length h.shared.frames ≤ p)) ⊎ ((nat_le (length h.shared.frames) p ≡ false) × (p < length h.shared.frames))
+        → is_present s p ≡ (list_any (has_slot (bounce_slots h + p)) h.regions || list_any (has_slot (bounce_slots h + p)) (r ∷ []))
+    by p (inr below) =
+        held_present h.shared s (r.slot - bounce_slots h) (pages_of r.len) same frames p below.1
+        ∙ ap (λ t. is_within (r.slot - bounce_slots h) (pages_of r.len) p || t) (fit.shown p)
+        ∙ ap (λ t. t || list_any (has_slot (bounce_slots h + p)) h.regions) (shifted (pages_of r.len) r.slot (bounce_slots h) p low_slot)
+        ∙ turned (is_within r.slot (pages_of r.len) (bounce_slots h + p)) (list_any (has_slot (bounce_slots h + p)) h.regions)
+    by p (inl past) =
+        let le : length h.shared.frames ≤ p = past.1 in
+        let off : nat_lt p (length h.shared.frames) ≡ false = grind (arith, nat_tests) in
+        let none : list_any (has_slot (bounce_slots h + p)) h.regions ≡ false = sym (fit.shown p) ∙ ap (λ t. t && (is_some h.shared.user || is_some (frame_of h.shared.frames p))) off in
+        let top = top_slot in
+        let not_here : is_within r.slot (pages_of r.len) (bounce_slots h + p) ≡ false = outside r.slot (pages_of r.len) (bounce_slots h + p) (omega arith) in
+        ap (λ n. nat_lt p n && (is_some s.user || is_some (frame_of s.frames p))) same.pages
+        ∙ ap (λ t. t && (is_some s.user || is_some (frame_of s.frames p))) off
+        ∙ sym (ap (λ t. t || (is_within r.slot (pages_of r.len) (bounce_slots h + p) || false)) none ∙ ap (λ t. t || false) not_here) where
+          outside : (slot n k : ℕ) → slot + n ≤ k → is_within slot n k ≡ false
+          outside slot n k le = grind (arith, nat_tests)
 
 -- ---- a new domain
 

@@ -10,6 +10,9 @@ pub mod Counts
 pub mod Fits
 pub mod Steps
 pub mod Opened
+pub mod LookedUp
+pub mod Ended
+pub mod Sharing
 pub mod Putting
 pub mod Presence
 pub mod EachFrom

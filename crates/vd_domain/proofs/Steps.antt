@@ -14,7 +14,7 @@ use Rattle.vd_iova.specs.Space.{Space, taken_of}
 use Rattle.vd_model.specs.declared.memory.Origin.TheVariants.{Daemon}
 use Rattle.vd_model.specs.Setting as model
 use Rattle.vd_model.specs.Setting.{Setting}
-use Rattle.vd_model.specs.Acts.{Act, Node, Driver, Streaming, Coherent, Daemon_put, Mapped, Unmapped, Synced_device}
+use Rattle.vd_model.specs.Acts.{Act, Node, Driver, Streaming, Coherent, Daemon_put, Mapped, Unmapped, Synced_device, Region_made}
 use Rattle.vd_model.specs.Live.{live, live_regions, region_covers, is_present, page_of, meets_page, maps_address, iova_of, registered, maps, regions, is_bounce_live, area_len}
 use Rattle.vd_model.specs.Puts.{address_put, Put, Iova, last_put, ram, bus_bytes, each_from, shown, text_at, driver_put, or_put, handed_if, zero_if, a_zero, ram_cell, is_to_device}
 use Rattle.vd_model.specs.AreaTurns.{is_accessible, first_bus, first_failing}
@@ -24,7 +24,7 @@ use Rattle.vd_domain.specs.Held.{Held, IsFit, IsTaken, Holding, mapping_holds, r
 use Rattle.vd_domain.specs.Stands.{Stands, last_byte}
 use Rattle.vd_domain.specs.Handed.{IsOf}
 use Rattle.vd_model.specs.Place.{place_of, taken, meets, mapping_slots, region_slots}
-use Rattle.vd_domain.proofs.Holdings.{any_map, any_none, any_more, slots_of, meets_are, place_same}
+use Rattle.vd_domain.proofs.Holdings.{taken_there, any_map, any_none, any_more, slots_of, meets_are, place_same}
 use Rattle.vd_domain.proofs.Entries.{found_passes}
 use Rattle.vd_domain.proofs.Failing.{first_failing_same, first_failing_none}
 use Rattle.vd_domain.proofs.Reaches.{low_same, high_same, low_byte, high_byte}
@@ -141,7 +141,7 @@ module _ (x : Setting) (acts : List Act) (h : Held) (m : Memory) (s : Stands x a
 
   -- ---- what can be accessed
 
-  covers_slot : (a : ℕ) → list_any (λ r. region_covers r a) h.regions ≡ list_any (λ (k : Holding). is_within k.slot k.count (a / 4096)) (map region_holds h.regions)
+  pub covers_slot : (a : ℕ) → list_any (λ r. region_covers r a) h.regions ≡ list_any (λ (k : Holding). is_within k.slot k.count (a / 4096)) (map region_holds h.regions)
   covers_slot a = sym (any_map region_holds (λ (k : Holding). is_within k.slot k.count (a / 4096)) (λ r. region_covers r a) (λ r. refl) h.regions)
 
   none_low : (a : ℕ) → a < bounce_size h.bounce → list_any (λ r. region_covers r a) (live_regions acts) ≡ false
@@ -156,7 +156,7 @@ module _ (x : Setting) (acts : List Act) (h : Held) (m : Memory) (s : Stands x a
             let under : a / 4096 < k.slot = omega arith in
             grind (arith, nat_tests)
 
-  high_covers : (a : ℕ) → bounce_size h.bounce ≤ a → b.is_present h.shared ((a - bounce_size h.bounce) / page_size h.shared) ≡ list_any (λ r. region_covers r a) (live_regions acts)
+  pub high_covers : (a : ℕ) → bounce_size h.bounce ≤ a → b.is_present h.shared ((a - bounce_size h.bounce) / page_size h.shared) ≡ list_any (λ r. region_covers r a) (live_regions acts)
   high_covers a above =
       ap (λ g. b.is_present h.shared ((a - bounce_size h.bounce) / (4096 * g))) fit.slots
       ∙ fit.shown ((a - bounce_size h.bounce) / 4096)
@@ -358,6 +358,101 @@ module _ (x : Setting) (acts : List Act) (h : Held) (m : Memory) (s : Stands x a
         ∙ s.shared a (subst (λ k. k ≤ a) (sym (size_is x acts h m s)) above) (sym (ap (λ (rs : List Coherent). list_any (λ r. region_covers r a) rs) held) ∙ covered)
         ∙ ap (λ o. or_byte o (last_byte x acts (Iova a))) (sym (none a)));
   }
+
+  -- ---- a region that is made
+
+  pub high_place : (n : ℕ) → place_of (taken_of high) n high.first high.«end» ≡ place_of (taken acts) n x.bounce x.iova
+  high_place n =
+      ap (λ k. place_of (taken_of high) n k high.«end») (fit.high_first ∙ sym s.bounce)
+      ∙ ap (λ k. place_of (taken_of high) n x.bounce k) (fit.high_end ∙ sym s.iova)
+      ∙ place_same (taken_of high) (taken acts) n x.bounce x.iova agree where
+        map_off : (k : ℕ) → x.bounce ≤ k → list_any (meets k n) (map mapping_slots (live acts)) ≡ false
+        map_off k base =
+            ap (λ (l : List Streaming). list_any (meets k n) (map mapping_slots l)) (sym s.live)
+            ∙ any_map mapping_slots (meets k n) (λ m. meets k n (mapping_slots m)) (λ m. refl) h.live
+            ∙ sym (any_map mapping_holds (λ (g : Holding). meets k n (slots_of g)) (λ m. meets k n (mapping_slots m)) (λ m. refl) h.live)
+            ∙ any_none (λ (g : Holding). meets k n (slots_of g)) (map mapping_holds h.live) (λ i d below. off (slice_index_or (map mapping_holds h.live) i d) (fit.maps.each i d below)) where
+              off : (g : Holding) → IsTaken low h.maps g → meets k n (slots_of g) ≡ false
+              off g t =
+                  let top = t.high in
+                  let at = fit.low_end in
+                  let bounce = s.bounce in
+                  let under : g.slot + g.count ≤ k = omega arith in
+                  two k (g.slot + g.count) (nat_lt g.slot (k + n)) under where
+                    two : (i j : ℕ) (b : Bool) → j ≤ i → (nat_lt i j && b) ≡ false
+                    two i j b le = let no : nat_lt i j ≡ false = grind (arith, nat_tests) in ap (λ t. t && b) no
+
+        agree : (k : ℕ) → x.bounce ≤ k → k + n ≤ x.iova → list_any (meets k n) (taken_of high) ≡ list_any (meets k n) (taken acts)
+        agree k above top =
+            meets_are high h.made (map region_holds h.regions) fit.regions k n
+            ∙ any_map region_holds (λ (g : Holding). meets k n (slots_of g)) (λ r. meets k n (region_slots r)) (λ r. refl) h.regions
+            ∙ ap (λ (l : List Coherent). list_any (λ r. meets k n (region_slots r)) l) s.regions
+            ∙ sym (any_map region_slots (meets k n) (λ r. meets k n (region_slots r)) (λ r. refl) (live_regions acts))
+            ∙ ap (λ t. t || list_any (meets k n) (map region_slots (live_regions acts))) (sym (map_off k above))
+            ∙ sym (any_more (meets k n) (map mapping_slots (live acts)) (map region_slots (live_regions acts)))
+
+  pub gained : (r : Coherent) (d : Bounce) (store : Memory) → r.number ≡ h.made → bounce_slots h ≤ r.slot → SameShape h.shared d
+      → ((p : Place) → value d store p ≡ value h.shared h.store p) → list_any (meets r.slot (pages_of r.len)) (taken_of high) ≡ false
+      → Stands x (Driver (Region_made r) ∷ acts) (record h { shared = d; store = store; regions = h.regions ++ r ∷ []; made = h.made + 1 }) m
+  gained r d store number base same values clear = record {
+    bounce = s.bounce;
+    iova = s.iova ∙ ap (λ n. bounce_slots h + n) (sym same.pages);
+    per_page = s.per_page;
+    live = s.live;
+    maps = s.maps;
+    regions = ap (λ l. l ++ r ∷ []) s.regions;
+    made = ap (λ n. n + 1) s.made;
+    is_shown = s.is_shown;
+    area = s.area;
+    registered = s.registered;
+    present = s.present;
+    bytes = λ a none below seen. next_bytes x acts h m s (Driver (Region_made r)) (driver_addressed x.per_page acts (Region_made r)) h m
+        (λ a below seen none. s.bytes a none (subst (λ k. a < k) (sym (size_is x acts h m s)) below) seen ∙ sym (ap (λ t. or_byte (zero_if t) (last_byte x acts (Iova a))) (off_low a below))) none a below seen;
+    area_bytes = next_area x acts h m s (Driver (Region_made r)) (driver_addressed x.per_page acts (Region_made r)) h m (length (unwrap_or h.bounce.area []))
+        (λ o below none. refl) (λ u o below some off. refl)
+        (λ u a below some. sym (ap (λ t. or_byte (zero_if t) (value h.bounce m (b.Area (u + a)))) (off_low a below))) (omega arith);
+    shared = next_shared x acts h m s (Driver (Region_made r)) (driver_addressed x.per_page acts (Region_made r)) (record h { shared = d; store = store }) m high_part;
+  } where
+    size : 4096 * h.bounce.per_page * length h.bounce.frames ≡ 4096 * bounce_slots h
+    size = omega arith
+
+    off_low : (a : ℕ) → a < bounce_size h.bounce → region_covers r a ≡ false
+    off_low a below =
+        let even = size in
+        let le = base in
+        let under : a / 4096 < r.slot = omega arith in
+        grind (arith, nat_tests)
+
+    -- the region has no slot of another one
+    alone : (a : ℕ) → region_covers r a ≡ true → list_any (λ r. region_covers r a) (live_regions acts) ≡ false
+    alone a t =
+        ap (λ rs. list_any (λ r. region_covers r a) rs) (sym s.regions) ∙ covers_slot a
+        ∙ any_none (λ (k : Holding). is_within k.slot k.count (a / 4096)) (map region_holds h.regions) (λ i e below. off (slice_index_or (map region_holds h.regions) i e) (fit.regions.each i e below)) where
+          off : (k : Holding) → IsTaken high h.made k → is_within k.slot k.count (a / 4096) ≡ false
+          off k held = by (is_within k.slot k.count (a / 4096)) refl where
+            both : (slot n at from count : ℕ) → is_within slot n at ≡ true → is_within from count at ≡ true → (nat_lt slot (from + count) && nat_lt from (slot + n)) ≡ true
+            both slot n at from count p q = grind (arith, nat_tests)
+
+            by : (u : Bool) → is_within k.slot k.count (a / 4096) ≡ u → u ≡ false
+            by false e = refl
+            by true e =
+                let hit : meets r.slot (pages_of r.len) (slots_of k) ≡ true = both r.slot (pages_of r.len) (a / 4096) k.slot k.count t e in
+                absurd (true≢false (sym (taken_there high h.made k (meets r.slot (pages_of r.len)) held hit) ∙ clear))
+
+    high_part : (a : ℕ) → bounce_size h.bounce ≤ a → list_any (λ r. region_covers r a) (live_regions acts ++ r ∷ []) ≡ true
+        → value d store (b.Iova (a - bounce_size h.bounce)) ≡ or_byte (zero_if (region_covers r a)) (last_byte x acts (Iova a))
+    high_part a above covered = values (b.Iova (a - bounce_size h.bounce)) ∙ by (region_covers r a) refl where
+      or_false : (t : Bool) → (t || (false || false)) ≡ t
+      or_false true = refl
+      or_false false = refl
+
+      by : (t : Bool) → region_covers r a ≡ t → value h.shared h.store (b.Iova (a - bounce_size h.bounce)) ≡ or_byte (zero_if t) (last_byte x acts (Iova a))
+      by true t = absent_zero h.shared h.store (a - bounce_size h.bounce) fit.plain (high_covers a above ∙ alone a t)
+      by false t =
+          let old : list_any (λ r. region_covers r a) (live_regions acts) ≡ true =
+          sym (or_false (list_any (λ r. region_covers r a) (live_regions acts))) ∙ sym (ap (λ t. list_any (λ r. region_covers r a) (live_regions acts) || (t || false)) t)
+          ∙ sym (any_more (λ r. region_covers r a) (live_regions acts) (r ∷ [])) ∙ covered in
+          ap (λ k. value h.shared h.store (b.Iova (a - k))) (sym (size_is x acts h m s)) ∙ s.shared a (subst (λ k. k ≤ a) (sym (size_is x acts h m s)) above) old
 
   -- ---- a map
 

@@ -7,3 +7,4 @@ pub mod Held
 pub mod Handed
 pub mod Stands
 pub mod Placing
+pub mod Lookup

@@ -71,21 +71,21 @@ pub fn book(
     }
 }
 
-/// Gives a mapping a number, and sees that the pool has so many frames; none where there is no memory.
-fn enroll(
-    mappings: &mut Numbered<Bounced>,
+/// Gives a value a number, and sees that the pool has so many frames; none where there is no memory.
+pub fn enroll<T: Copy + Drop>(
+    values: &mut Numbered<T>,
     pool: &mut Pool,
     frames: u64,
-    mapping: Bounced,
+    value: T,
 ) -> Option<u64>
-    requires made { mappings.old.made < 2 ^ 62 }
-    ensures some { IfSome result (λ n. (n ≡ mappings.old.made)
-        × (mappings.new ≡ record { entries = mappings.old.entries ++ (n, mapping) ∷ []; made = n + 1 }) × (frames ≤ pool.new.spare)) }
-    ensures none { IfNone result (mappings.new ≡ mappings.old) }
+    requires made { values.old.made < 2 ^ 62 }
+    ensures some { IfSome result (λ n. (n ≡ values.old.made)
+        × (values.new ≡ record { entries = values.old.entries ++ (n, value) ∷ []; made = n + 1 }) × (frames ≤ pool.new.spare)) }
+    ensures none { IfNone result (values.new ≡ values.old) }
     ensures grows { Grows pool.old pool.new }
 {
     if pool.reserve(frames).is_err() {
         return None;
     }
-    mappings.push(mapping).ok()
+    values.push(value).ok()
 }

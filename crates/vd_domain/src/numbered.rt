@@ -74,6 +74,13 @@ impl<T: Copy + Drop> Numbered<T> {
         self.map.get(&number).copied()
     }
 
+    /// The values by their numbers.
+    pub fn by_number(&self) -> &BTreeMap<u64, T>
+        ensures { result.now.entries ≡ self.now.entries }
+    {
+        &self.map
+    }
+
     /// Takes the value of this number away.
     pub fn remove(&mut self, number: u64)
         ensures { self.new ≡ record self.old { entries = filter (λ e. not (e.0 == number)) self.old.entries } }
@@ -84,7 +91,8 @@ impl<T: Copy + Drop> Numbered<T> {
     /// Takes the value that was added last away, as if it had not been added.
     pub fn undo(&mut self)
         requires { 0 < self.old.made }
-        ensures { (es : List (ℕ × T)) (value : T) → self.old.entries ≡ es ++ (self.old.made - 1, value) ∷ [] → self.new ≡ record { entries = es; made = self.old.made - 1 } }
+        ensures rest { self.new ≡ record { entries = filter (λ e. not (e.0 == self.old.made - 1)) self.old.entries; made = self.old.made - 1 } }
+        ensures last { (es : List (ℕ × T)) (value : T) → self.old.entries ≡ es ++ (self.old.made - 1, value) ∷ [] → self.new ≡ record { entries = es; made = self.old.made - 1 } }
     {
         let number = self.made - 1;
         self.map.remove(&number);

@@ -40,7 +40,7 @@ pub fn pages_met(slot: u64, slots: u64, per_page: u64) -> Pages
 }
 
 /// Gives frames of zeros to those of some pages that have none, also while an area is registered.
-fn hold(map: &mut BounceMap, pool: &mut Pool, pages: Pages)
+pub fn hold(map: &mut BounceMap, pool: &mut Pool, pages: Pages)
     requires holds { Holds map.old.frames pool.old }
     requires range { pages.first + pages.count ≤ length map.old.frames }
     requires small { length map.old.frames < 2 ^ 32 }

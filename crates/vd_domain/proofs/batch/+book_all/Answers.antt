@@ -79,6 +79,6 @@ returns-then-is_err-clause-err n c =
       c.give.ensures.new
           ∙ ap (λ (s : Space). record s { counts = slice_set s.counts slot 0 }) (restored.0 ∙ c.in-Ok.ensures.space)
           ∙ ap (λ (xs : List ℕ). record low { counts = xs }) (set_back low.counts slot (pages_of c.in-Some.parts.0.now.len) c.in-Ok.ensures.taken.0),
-      c.undo.ensures old.entries (record { slot = slot; want = c.in-Some.parts.0.now }) last
+      c.undo.ensures.last old.entries (record { slot = slot; want = c.in-Some.parts.0.now }) last
           ∙ ap (λ (k : ℕ). record { entries = old.entries; made = k }) (number ∙ c.in-Ok.ensures.numbered.0),
     )

@@ -14,8 +14,15 @@ invariant_of-self g c =
     (sym (c.remove.ensures.entries ∙ removed 0 made (made - 1) c.self.inside.map.entries c.self.invariant))
     (rising_cut 0 (made - 1) c.self.inside.map.entries (omega arith) (subst (λ (n : ℕ). IsRising 0 n c.self.inside.map.entries) back c.self.invariant))
 
-pub returns : goal.returns
-returns g c = λ es value is.
+pub returns-clause-rest : goal.returns-clause-rest
+returns-clause-rest g c =
+    let made : ℕ = c.self.inside.made in
+    ap (λ (es : List (ℕ × g.row.T.Denot)). record { entries = es; made = made - 1 })
+    (c.remove.ensures.entries ∙ removed 0 made (made - 1) c.self.inside.map.entries c.self.invariant)
+    ∙ ap (λ (n : Numbered g.row.T.Denot). record { entries = filter (λ (e : ℕ × g.row.T.Denot). not (e.0 == n.made - 1)) n.entries; made = n.made - 1 }) c.self.view_is
+
+pub returns-clause-last : goal.returns-clause-last
+returns-clause-last g c = λ es value is.
     let made : ℕ = c.self.inside.made in
     let same : made ≡ c.args.self.now.made = ap (λ (n : Numbered g.row.T.Denot). n.made) c.self.view_is in
     let all : c.self.inside.map.entries ≡ es ++ (made - 1, value) ∷ [] =
