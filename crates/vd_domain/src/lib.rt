@@ -13,6 +13,7 @@ mod booking;
 mod domain;
 mod numbered;
 mod pages;
+mod ring_access;
 mod streaming;
 mod uses;
 
