@@ -9,6 +9,7 @@ pub mod Present
 pub mod Counts
 pub mod Fits
 pub mod Steps
+pub mod Rings
 pub mod Opened
 pub mod LookedUp
 pub mod Ended

@@ -144,7 +144,7 @@ module _ (x : Setting) (acts : List Act) (h : Held) (m : Memory) (s : Stands x a
   pub covers_slot : (a : ℕ) → list_any (λ r. region_covers r a) h.regions ≡ list_any (λ (k : Holding). is_within k.slot k.count (a / 4096)) (map region_holds h.regions)
   covers_slot a = sym (any_map region_holds (λ (k : Holding). is_within k.slot k.count (a / 4096)) (λ r. region_covers r a) (λ r. refl) h.regions)
 
-  none_low : (a : ℕ) → a < bounce_size h.bounce → list_any (λ r. region_covers r a) (live_regions acts) ≡ false
+  pub none_low : (a : ℕ) → a < bounce_size h.bounce → list_any (λ r. region_covers r a) (live_regions acts) ≡ false
   none_low a below =
       ap (λ rs. list_any (λ r. region_covers r a) rs) (sym s.regions) ∙ covers_slot a
       ∙ any_none (λ (k : Holding). is_within k.slot k.count (a / 4096)) (map region_holds h.regions) (λ k d inside. off (slice_index_or (map region_holds h.regions) k d) (fit.regions.each k d inside)) where

@@ -14,6 +14,7 @@ mod coherent;
 mod domain;
 mod numbered;
 mod pages;
+mod ring_access;
 mod streaming;
 mod uses;
 
