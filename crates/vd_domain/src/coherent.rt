@@ -1,6 +1,6 @@
 //! Coherent regions: memory that a device's driver and its daemon share.
 
-ghost use Rattle.std.specs.Prelude.{◌≡◌, ◌+◌, ◌-◌, ◌*◌, ◌/◌, ◌<◌, ◌≤◌, ◌^◌, ◌↔◌, ◌&&◌, not, ℕ, List, ◌∷◌, length, if◌then◌else◌, true, is_some, Some, None, IfOk, OnErr, IsErr, MatchResult, ◌⊎◌, map};
+ghost use Rattle.std.specs.Prelude.{◌≡◌, ◌+◌, ◌-◌, ◌*◌, ◌/◌, ◌<◌, ◌≤◌, ◌^◌, ◌↔◌, ◌&&◌, ◌==◌, not, ℕ, List, ◌∷◌, length, if◌then◌else◌, true, is_some, Some, None, IfOk, OnErr, IsErr, MatchResult, ◌⊎◌, map};
 ghost use Rattle.std.specs.List.{All};
 ghost use Rattle.vd_num.specs.Number.{is_within, pages_of};
 ghost use Rattle.vd_pool.specs.Memory.{Memory};
@@ -10,7 +10,9 @@ ghost use Rattle.vd_model.specs.Live.{regions};
 ghost use Rattle.vd_model.specs.AreaTurns.{daemon_regions, first_region, region_of};
 ghost use Rattle.vd_model.specs.Place.{place_of, taken};
 ghost use Rattle.vd_bounce.specs.Frames.{frame_of, Holds, Keeps};
-ghost use Rattle.vd_bounce.specs.Bounce.{Iova, SameShape, page_size, value};
+ghost use Rattle.vd_bounce.specs.Bounce as b;
+ghost use Rattle.vd_bounce.specs.Bounce.{SameShape, page_size, value};
+ghost use Rattle.vd_iova.specs.Space.{taken_at};
 ghost use Rattle.vd_domain.specs.Held.{bounce_slots, coherent_of, has_slot};
 ghost use Rattle.vd_domain.specs.Lists.{region_at, regions_of};
 ghost use Rattle.vd_domain.specs.Lookup.{Lies, joined};
@@ -23,7 +25,7 @@ use crate::pages::{Pages, hold};
 use crate::streaming::Extent;
 use std::collections::BTreeMap;
 use vd_bounce::BounceMap;
-use vd_iova::Full;
+use vd_iova::{Full, Iova};
 use vd_model::{MapError, Mapping, Region};
 use vd_num::{Errno, PAGE_SIZE, Range, pages};
 use vd_pool::Pool;
@@ -84,9 +86,8 @@ impl Domain {
             Some(region) => region,
             None => return Err(NotLive),
         };
-        let pages = pages_in(&self.bounce, region);
-        release(&mut self.shared, &mut self.store, pages);
-        self.high.give(region.slot);
+        let (shared, store) = (&mut self.shared, &mut self.store);
+        give_back(&self.bounce, shared, store, &mut self.high, region);
         self.regions.remove(number);
         Ok(())
     }
@@ -104,9 +105,8 @@ impl Domain {
             Some(region) => region,
             None => unreachable!(),
         };
-        let pages = pages_in(&self.bounce, region);
-        release(&mut self.shared, &mut self.store, pages);
-        self.high.give(region.slot);
+        let (shared, store) = (&mut self.shared, &mut self.store);
+        give_back(&self.bounce, shared, store, &mut self.high, region);
         self.regions.undo();
     }
 
@@ -188,14 +188,42 @@ fn pages_in(bounce: &BounceMap, region: Extent) -> Pages
     }
 }
 
+/// Gives the slots of a region back, and their frames.
+fn give_back(
+    bounce: &BounceMap,
+    shared: &mut BounceMap,
+    store: &mut Pool,
+    high: &mut Iova,
+    region: Extent,
+)
+    requires holds { Holds shared.old.frames store.old }
+    requires low { bounce.now.per_page * length bounce.now.frames ≤ region.slot }
+    requires range { region.slot - bounce.now.per_page * length bounce.now.frames + pages_of region.len ≤ length shared.old.frames }
+    requires small { (region.slot ≤ 65536) × (length shared.old.frames < 2 ^ 32) }
+    requires taken { 0 < taken_at high.old region.slot }
+    ensures kept { Keeps shared.old.frames shared.new.frames store.old store.new }
+    ensures bytes { (a : ℕ) → value shared.new store.new (b.Iova a)
+        ≡ (if is_within (region.slot - bounce.now.per_page * length bounce.now.frames) (pages_of region.len) (a / page_size shared.old)
+        then 0 else value shared.old store.old (b.Iova a)) }
+    ensures frames { (p : ℕ) → is_some (frame_of shared.new.frames p)
+        ≡ (not (is_within (region.slot - bounce.now.per_page * length bounce.now.frames) (pages_of region.len) p) && is_some (frame_of shared.old.frames p)) }
+    ensures same { SameShape shared.old shared.new }
+    ensures space { (high.new.first ≡ high.old.first) × (high.new.«end» ≡ high.old.«end»)
+        × ((q : ℕ) → taken_at high.new q ≡ (if q == region.slot then 0 else taken_at high.old q)) }
+{
+    let pages = pages_in(bounce, region);
+    release(shared, store, pages);
+    high.give(region.slot);
+}
+
 /// Gives the frames of some pages back.
 fn release(map: &mut BounceMap, pool: &mut Pool, pages: Pages)
     requires holds { Holds map.old.frames pool.old }
     requires range { pages.first + pages.count ≤ length map.old.frames }
     requires small { length map.old.frames < 2 ^ 32 }
     ensures kept { Keeps map.old.frames map.new.frames pool.old pool.new }
-    ensures bytes { (a : ℕ) → value map.new pool.new (Iova a)
-        ≡ (if is_within pages.first pages.count (a / page_size map.old) then 0 else value map.old pool.old (Iova a)) }
+    ensures bytes { (a : ℕ) → value map.new pool.new (b.Iova a)
+        ≡ (if is_within pages.first pages.count (a / page_size map.old) then 0 else value map.old pool.old (b.Iova a)) }
     ensures frames { (p : ℕ) → is_some (frame_of map.new.frames p) ≡ (not (is_within pages.first pages.count p) && is_some (frame_of map.old.frames p)) }
     ensures same { SameShape map.old map.new }
 {
