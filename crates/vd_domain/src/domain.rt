@@ -353,6 +353,7 @@ impl Domain {
         requires free { self.old.bounce.user ≡ None }
         ensures kept { Keeps self.old.bounce.frames self.new.bounce.frames pool.old pool.new }
         ensures none { (p : ℕ) → frame_of self.new.bounce.frames p ≡ None }
+        ensures same { self.new ≡ record self.old { bounce = self.new.bounce } }
     {
         self.bounce.empty(pool);
     }

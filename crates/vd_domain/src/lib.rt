@@ -16,6 +16,8 @@ mod numbered;
 mod pages;
 mod ring_access;
 mod streaming;
+#[cfg(test)]
+mod tests;
 mod uses;
 
 pub use areas::AREA_START;
