@@ -1,0 +1,8 @@
+//! The laws of the rings: what holds of a queue's ring while nobody disturbs it.
+//!
+//! It stands on the model and its laws alone.
+#![tactic(auto)]
+
+mod order;
+
+pub use order::instances_of_order;
