@@ -1,16 +1,14 @@
 -- The small history computes.
-use Rattle.std.proofs.Common.{◌≡◌, ℕ, zero, suc, Bool, true, false, cond, refl, ap, subst, sym, ◌∙◌, None, List, [], ◌∷◌, ◌++◌, Some, IsTrue, ◌⊎◌, inl, inr, ◌&&◌, true≢false}
+use Rattle.std.proofs.Common.{◌≡◌, ℕ, zero, suc, true, false, cond, refl, ap, subst, sym, ◌∙◌, None, List, [], ◌∷◌, ◌++◌, Some, IsTrue, inl, inr, ◌&&◌, true≢false}
 use Rattle.std.proofs.lemmas.Bool.{ne_eqb}
 use Rattle.std.specs.Int.Count.{ones}
 use Rattle.vd_num.specs.Number.{power_from, doubled_to}
-use Rattle.vd_model.specs.declared.step.Step.{Step}
 use Rattle.vd_model.specs.Memory.{read}
 use Rattle.vd_model.specs.Place.{greatest, place_of}
 use Rattle.vd_model.specs.Trace.{ending_at, ending_within}
-use Rattle.vd_model.specs.Acts.{Act, state_acts}
+use Rattle.vd_model.specs.Acts.{state_acts}
 use Rattle.vd_model.specs.State.{StateAct, Max_set, Num_set, Addr_set, Ready_set, is_ready}
 use Rattle.vd_model.specs.Queues.{Ring, ring_of}
-use Rattle.vd_model.specs.DaemonTurns.{queue_place}
 use Rattle.vd_model.specs.History.{Entry, History, deeds_of}
 use Rattle.vd_model.specs.Agree.{concerns}
 use Rattle.vd_laws.specs.Among.{Among}

@@ -1,1 +1,2 @@
 pub mod OrderInstances
+pub mod PositionLaw

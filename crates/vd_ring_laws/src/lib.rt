@@ -5,4 +5,4 @@
 
 mod order;
 
-pub use order::instances_of_order;
+pub use order::{instances_of_order, positions};

@@ -1,6 +1,15 @@
 //! The order in which requests finish.
 
+ghost use Rattle.vd_model.specs.Setting.{Setting};
+ghost use Rattle.vd_model.specs.History.{History};
+ghost use Rattle.vd_ring_laws.specs.PositionLaw.{PositionLaw};
 ghost use Rattle.vd_ring_laws.specs.OrderInstances.{OrderInstances};
+
+/// The block daemon has one request in hand at most on a queue, of a queue that was ready when it
+/// was fetched, and has finished all others that it fetched.
+pub fn positions()
+    ensures { (x : Setting) (h : History) → PositionLaw x h }
+{}
 
 /// The condition of the order law is met by a small history, in which a request is finished.
 pub fn instances_of_order()
