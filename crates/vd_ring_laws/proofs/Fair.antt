@@ -1,5 +1,5 @@
--- The block daemon fetches from a ready queue, with no request in hand, and finishes a request that is in hand.
-use Rattle.std.proofs.Common.{◌≡◌, ℕ, Bool, true, false, refl, ap, ◌∙◌, Option, None, Some, Result, Ok, Err, List, [], ◌∷◌, ◌++◌, ◌==◌, ◌||◌, not, nat_lt, drop, take, is_some, if◌then◌else◌}
+-- What was tested before a chain is placed or reclaimed, and before a request is fetched or finished.
+use Rattle.std.proofs.Common.{◌<◌, ◌≡◌, ℕ, Bool, true, false, refl, ap, ◌∙◌, Option, None, Some, Result, Ok, Err, List, [], ◌∷◌, ◌++◌, ◌==◌, ◌||◌, not, nat_lt, drop, take, is_some, if◌then◌else◌}
 use Rattle.std.specs.List.{list_all}
 use Rattle.std.specs.Option.{option_map_or}
 use Rattle.std.proofs.lemmas.Bool.{and_parts}
@@ -11,23 +11,34 @@ use Rattle.vd_model.specs.declared.parts.Chain.{Chain}
 use Rattle.vd_model.specs.declared.queue.RingPlace.{RingPlace}
 use Rattle.vd_model.specs.Setting.{Setting}
 use Rattle.vd_model.specs.Creation.{Creation}
-use Rattle.vd_model.specs.Acts.{Act, Node, Queue, Daemon_put, Fetched, Finished, state_acts}
+use Rattle.vd_model.specs.Acts.{Act, Added, Node, Queue, Daemon_put, Chain_added, Chain_reclaimed, Fetched, Finished, state_acts}
 use Rattle.vd_model.specs.State.{is_ready}
 use Rattle.vd_model.specs.Memory.{Memory, read}
 use Rattle.vd_model.specs.Trace.{Ending, whole, faulty, missing, start_of, ending_of}
-use Rattle.vd_model.specs.Queues.{in_hand, fetches, executed, Executed_as}
+use Rattle.vd_model.specs.Queues.{Ring, ring_of, out, published_out, is_used, in_hand, fetches, executed, Executed_as}
 use Rattle.vd_model.specs.Rings.{number16, available_index_at, available_slot_at, available_event_at, used_element_at, used_index_at, minus16, next16}
 use Rattle.vd_model.specs.Turn.{Turn, refuse, refused, given}
 use Rattle.vd_model.specs.Raw.{little_bytes}
 use Rattle.vd_model.specs.BusTurns.{is_missing}
 use Rattle.vd_model.specs.DaemonTurns.{daemon_memory, queue_place, has_indirect, has_event_idx, chain_or, read_or, first_used, moved, readable_bytes, event_or, fetched_turn, fetch_chain, fetch_at, fetch_from, is_idle, fetch_turn, Hand, hand, used_position, unwritable_or, spread, deciding_field, finish_puts, finish_hand, finish_turn}
+use Rattle.vd_model.specs.RingTurns.{first_of}
+use Rattle.vd_laws.specs.Among.{Among}
 use Rattle.vd_laws.proofs.Refusals.{not_given}
 use Rattle.vd_ring_laws.proofs.Mild.{is_mild, are_mild}
+
+-- a chain of descriptors that are free in its ring
+pub record IsTaken (acts : List Act) (q : ℕ) (chain : Added) : Type 0 where
+  pub ring : Ring
+  pub there : ring_of acts q ≡ Some ring
+  pub free : (k : ℕ) → Among k chain.descriptors → (k < ring.place.size) × (is_used (out acts q) k ≡ false)
+  pub first : chain.head ≡ first_of chain.descriptors
 
 -- what an act has tested
 abbrev pub Admits : List Act → Act → Type 0
 Admits acts (Queue (Fetched q)) = (in_hand acts q ≡ None) × (is_ready (state_acts acts) q ≡ true)
 Admits acts (Queue (Finished q)) = is_some (in_hand acts q) ≡ true
+Admits acts (Queue (Chain_added q chain)) = IsTaken acts q chain
+Admits acts (Queue (Chain_reclaimed q head)) = (c : Added) × Among c (published_out acts q) × (c.head ≡ head)
 Admits acts _ = Unit {0}
 
 abbrev pub Fair : List Act → Type 0
@@ -42,6 +53,8 @@ earlier_fair (act ∷ later) acts h = earlier_fair later acts h.1
 mild_admitted : (act : Act) (acts : List Act) → is_mild act ≡ true → Admits acts act
 mild_admitted (Queue (Fetched q)) acts e = cc
 mild_admitted (Queue (Finished q)) acts e = cc
+mild_admitted (Queue (Chain_added q chain)) acts e = cc
+mild_admitted (Queue (Chain_reclaimed q head)) acts e = cc
 mild_admitted _ acts e = tt
 
 pub mild_fair : (made acts : List Act) → are_mild made ≡ true → Fair acts → Fair (made ++ acts)
@@ -57,14 +70,14 @@ no_hand None e = refl
 no_hand (Some x) e = cc
 
 module _ (done : List Act) (fair : Fair done) where
-  abbrev IsFair : Turn Act → Type 0
+  abbrev pub IsFair : Turn Act → Type 0
   IsFair turn = Fair (turn.acts ++ done)
 
-  refuse_fair : (o : Option Errno) (turn : Turn Act) → (o ≡ None → IsFair turn) → IsFair (refuse o turn)
+  pub refuse_fair : (o : Option Errno) (turn : Turn Act) → (o ≡ None → IsFair turn) → IsFair (refuse o turn)
   refuse_fair None turn h = h refl
   refuse_fair (Some errno) turn h = fair
 
-  read_fair : {X : Type 0} (r : Result X ℕ) (turn : X → Turn Act) → ((y : X) → IsFair (turn y)) → IsFair (read_or r turn)
+  pub read_fair : {X : Type 0} (r : Result X ℕ) (turn : X → Turn Act) → ((y : X) → IsFair (turn y)) → IsFair (read_or r turn)
   read_fair (Ok y) turn h = h y
   read_fair (Err at) turn h = fair
 
@@ -73,11 +86,11 @@ module _ (done : List Act) (fair : Fair done) where
   chain_fair (faulty fault) turn h = fair
   chain_fair (missing at) turn h = fair
 
-  option_fair : {X : Type 0} (turn : X → Turn Act) (o : Option X) (errno : Errno) → ((y : X) → o ≡ Some y → IsFair (turn y)) → IsFair (option_map_or turn o (refused errno))
+  pub option_fair : {X : Type 0} (turn : X → Turn Act) (o : Option X) (errno : Errno) → ((y : X) → o ≡ Some y → IsFair (turn y)) → IsFair (option_map_or turn o (refused errno))
   option_fair turn None errno h = fair
   option_fair turn (Some y) errno h = h y refl
 
-  either_fair : (b : Bool) (turn other : Turn Act) → IsFair turn → IsFair other → IsFair (if b then turn else other)
+  pub either_fair : (b : Bool) (turn other : Turn Act) → IsFair turn → IsFair other → IsFair (if b then turn else other)
   either_fair true turn other h k = h
   either_fair false turn other h k = k
 

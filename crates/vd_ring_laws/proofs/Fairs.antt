@@ -34,9 +34,10 @@ use Rattle.vd_laws.specs.Runs.{acts_of, IsMoment}
 use Rattle.vd_laws.proofs.Kept.{name_is, granted, raw_granted, control_granted, if_done_either, control_does}
 use Rattle.vd_laws.proofs.Histories.{own_same, own_other}
 use Rattle.vd_ring_laws.specs.PositionLaw.{PositionLaw}
-use Rattle.vd_ring_laws.proofs.Mild.{Mild, refuse_mild, nodes_mild, drivers_mild, walk_mild, execute_mild, ring_mild, unring_mild, add_mild, publish_mild, submit_mild, poll_mild}
+use Rattle.vd_ring_laws.proofs.Mild.{Mild, refuse_mild, nodes_mild, drivers_mild, walk_mild, execute_mild, ring_mild, unring_mild, publish_mild}
 use Rattle.vd_ring_laws.proofs.Nodes.{node_mild, bus_mild}
 use Rattle.vd_ring_laws.proofs.Fair.{Fair, earlier_fair, mild_fair, fetch_fair, finish_fair}
+use Rattle.vd_ring_laws.proofs.Takes.{add_fair, submit_fair, poll_fair}
 use Rattle.vd_ring_laws.proofs.Hands.{position_after}
 
 -- ---- a line on a device
@@ -75,6 +76,9 @@ module _ (x : Setting) (s : Seen) (fair : Fair s.acts) where
   session : (turn : Turn Act) → Fair (turn.acts ++ s.acts) → Fair ((needs_session s.acts turn).acts ++ s.acts)
   session turn h = refused_fair s.acts (given (not (is_open s.acts)) Badf) turn fair h
 
+  placed : (turn : Turn Act) → Fair (turn.acts ++ s.acts) → Fair ((needs_bus s.acts turn).acts ++ s.acts)
+  placed turn h = refused_fair s.acts (given (not (is_attached s.acts)) Nodev) turn fair h
+
   bus : (turn : Turn Act) → Mild turn → Fair ((needs_bus s.acts turn).acts ++ s.acts)
   bus turn e = refused_fair s.acts (given (not (is_attached s.acts)) Nodev) turn fair (mild turn e)
 
@@ -86,10 +90,10 @@ module _ (x : Setting) (s : Seen) (fair : Fair s.acts) where
   queue_fair made name failed (queue.Finish q) = session (finish_turn x made s.acts q) (finish_fair x made s.acts q fair)
   queue_fair made name failed (queue.Ring q size) = bus (ring_turn x made s.acts q size) (ring_mild x made s.acts q size)
   queue_fair made name failed (queue.Unring q) = bus (unring_turn made s.acts q) (unring_mild made s.acts q)
-  queue_fair made name failed (queue.Add q parts) = bus (add_turn made s.acts q parts) (add_mild made s.acts q parts)
+  queue_fair made name failed (queue.Add q parts) = placed (add_turn made s.acts q parts) (add_fair made s.acts fair q parts)
   queue_fair made name failed (queue.Publish q) = bus (publish_turn x made s.acts q) (publish_mild x made s.acts q)
-  queue_fair made name failed (queue.Submit q asked) = bus (submit_turn x made s.acts q asked) (submit_mild x made s.acts q asked)
-  queue_fair made name failed (queue.Poll q) = bus (poll_turn x made s.acts q) (poll_mild x made s.acts q)
+  queue_fair made name failed (queue.Submit q asked) = placed (submit_turn x made s.acts q asked) (submit_fair x made s.acts fair q asked)
+  queue_fair made name failed (queue.Poll q) = placed (poll_turn x made s.acts q) (poll_fair x made s.acts fair q)
 
   device_fair : (step : DevStep) → Fair ((device_turn x s step).acts ++ s.acts)
   device_fair step = there_fair s.acts (λ made. dev_turn x made s step) s.made fair (λ made. mild (dev_turn x made s step) (dev_mild x made s step))

@@ -1,7 +1,9 @@
 pub mod Spans
 pub mod Instances
+pub mod Drivers
 pub mod Mild
 pub mod Nodes
 pub mod Fair
+pub mod Takes
 pub mod Hands
 pub mod Fairs
