@@ -33,11 +33,13 @@ use Rattle.vd_model.specs.History.{History, deeds_of, outcome, needs_session, ne
 use Rattle.vd_laws.specs.Runs.{acts_of, IsMoment}
 use Rattle.vd_laws.proofs.Kept.{name_is, granted, raw_granted, control_granted, if_done_either, control_does}
 use Rattle.vd_laws.proofs.Histories.{own_same, own_other}
+use Rattle.vd_ring_laws.specs.ChainLaw.{ChainLaw}
 use Rattle.vd_ring_laws.specs.PositionLaw.{PositionLaw}
 use Rattle.vd_ring_laws.proofs.Mild.{Mild, refuse_mild, nodes_mild, drivers_mild, walk_mild, execute_mild, ring_mild, unring_mild, publish_mild}
 use Rattle.vd_ring_laws.proofs.Nodes.{node_mild, bus_mild}
 use Rattle.vd_ring_laws.proofs.Fair.{Fair, earlier_fair, mild_fair, fetch_fair, finish_fair}
 use Rattle.vd_ring_laws.proofs.Takes.{add_fair, submit_fair, poll_fair}
+use Rattle.vd_ring_laws.proofs.Outs.{apart_after}
 use Rattle.vd_ring_laws.proofs.Hands.{position_after}
 
 -- ---- a line on a device
@@ -169,3 +171,6 @@ position_law x h = record {
   counted = λ d acts m q. (position_after acts q (moment_fair x h d acts m)).counted;
   fetched = λ d acts m q. (position_after acts q (moment_fair x h d acts m)).fetched;
 }
+
+pub chain_law : (x : Setting) (h : History) → ChainLaw x h
+chain_law x h = λ d acts m e q ring there. apart_after acts q ring (moment_fair x h d acts m) e there

@@ -6,4 +6,6 @@ pub mod Nodes
 pub mod Fair
 pub mod Takes
 pub mod Hands
+pub mod Distincts
+pub mod Outs
 pub mod Fairs

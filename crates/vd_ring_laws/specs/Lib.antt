@@ -1,2 +1,3 @@
 pub mod OrderInstances
 pub mod PositionLaw
+pub mod ChainLaw

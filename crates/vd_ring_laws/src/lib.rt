@@ -5,4 +5,4 @@
 
 mod order;
 
-pub use order::{instances_of_order, positions};
+pub use order::{chains_out, instances_of_order, positions};

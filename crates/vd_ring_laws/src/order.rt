@@ -2,6 +2,7 @@
 
 ghost use Rattle.vd_model.specs.Setting.{Setting};
 ghost use Rattle.vd_model.specs.History.{History};
+ghost use Rattle.vd_ring_laws.specs.ChainLaw.{ChainLaw};
 ghost use Rattle.vd_ring_laws.specs.PositionLaw.{PositionLaw};
 ghost use Rattle.vd_ring_laws.specs.OrderInstances.{OrderInstances};
 
@@ -9,6 +10,12 @@ ghost use Rattle.vd_ring_laws.specs.OrderInstances.{OrderInstances};
 /// was fetched, and has finished all others that it fetched.
 pub fn positions()
     ensures { (x : Setting) (h : History) → PositionLaw x h }
+{}
+
+/// The chains that are out on a ring have heads of their own, and are no more than the ring has
+/// descriptors.
+pub fn chains_out()
+    ensures { (x : Setting) (h : History) → ChainLaw x h }
 {}
 
 /// The condition of the order law is met by a small history, in which a request is finished.
