@@ -35,10 +35,10 @@ use Rattle.vd_laws.proofs.Kept.{name_is, granted, raw_granted, control_granted, 
 use Rattle.vd_laws.proofs.Histories.{own_same, own_other}
 use Rattle.vd_ring_laws.specs.ChainLaw.{ChainLaw}
 use Rattle.vd_ring_laws.specs.PositionLaw.{PositionLaw}
-use Rattle.vd_ring_laws.proofs.Mild.{Mild, refuse_mild, nodes_mild, drivers_mild, walk_mild, execute_mild, ring_mild, unring_mild, publish_mild}
+use Rattle.vd_ring_laws.proofs.Mild.{Mild, refuse_mild, nodes_mild, drivers_mild, walk_mild, execute_mild}
 use Rattle.vd_ring_laws.proofs.Nodes.{node_mild, bus_mild}
 use Rattle.vd_ring_laws.proofs.Fair.{Fair, earlier_fair, mild_fair, fetch_fair, finish_fair}
-use Rattle.vd_ring_laws.proofs.Takes.{add_fair, submit_fair, poll_fair}
+use Rattle.vd_ring_laws.proofs.Takes.{ring_fair, unring_fair, publish_fair, add_fair, submit_fair, poll_fair}
 use Rattle.vd_ring_laws.proofs.Outs.{apart_after}
 use Rattle.vd_ring_laws.proofs.Hands.{position_after}
 
@@ -55,7 +55,7 @@ opened_mild x made done (node.Ioctl number bytes) = by (ioctl_of number bytes) w
   by (Some Tell_features) = refl
 opened_mild x made done step = node_mild made done step
 
-dev_mild : (x : Setting) (made : Creation) (s : Seen) (step : DevStep) → Mild (dev_turn x made s step)
+pub dev_mild : (x : Setting) (made : Creation) (s : Seen) (step : DevStep) → Mild (dev_turn x made s step)
 dev_mild x made s (line.Node step) = refuse_mild (given (not (opens step) && not (is_open s.acts)) Badf) (open_node_turn x made s.acts step) (opened_mild x made s.acts step)
 dev_mild x made s (line.Area step) = refuse_mild (given (not (is_open s.acts)) Badf) (lift Node (area_turn x s.acts step)) (nodes_mild (area_turn x s.acts step).acts)
 dev_mild x made s (line.Bus step) = bus_mild made s.now s.acts step
@@ -81,19 +81,16 @@ module _ (x : Setting) (s : Seen) (fair : Fair s.acts) where
   placed : (turn : Turn Act) → Fair (turn.acts ++ s.acts) → Fair ((needs_bus s.acts turn).acts ++ s.acts)
   placed turn h = refused_fair s.acts (given (not (is_attached s.acts)) Nodev) turn fair h
 
-  bus : (turn : Turn Act) → Mild turn → Fair ((needs_bus s.acts turn).acts ++ s.acts)
-  bus turn e = refused_fair s.acts (given (not (is_attached s.acts)) Nodev) turn fair (mild turn e)
-
   queue_fair : (made : Creation) (name : List ℕ) (failed : Bool) (step : QueueStep) → Fair ((queue_turn x made name s failed step).acts ++ s.acts)
   queue_fair made name failed (queue.Walk q head) = session (walk_turn x made s.acts q head) (mild (walk_turn x made s.acts q head) (walk_mild x made s.acts q head))
   queue_fair made name failed (queue.Fetch q) = session (fetch_turn x made s.acts q) (fetch_fair x made s.acts q fair)
   queue_fair made name failed (queue.Execute q) =
       session (execute_turn x made (disk_of made name s) failed s.acts q) (mild (execute_turn x made (disk_of made name s) failed s.acts q) (execute_mild x made (disk_of made name s) failed s.acts q))
   queue_fair made name failed (queue.Finish q) = session (finish_turn x made s.acts q) (finish_fair x made s.acts q fair)
-  queue_fair made name failed (queue.Ring q size) = bus (ring_turn x made s.acts q size) (ring_mild x made s.acts q size)
-  queue_fair made name failed (queue.Unring q) = bus (unring_turn made s.acts q) (unring_mild made s.acts q)
-  queue_fair made name failed (queue.Add q parts) = placed (add_turn made s.acts q parts) (add_fair made s.acts fair q parts)
-  queue_fair made name failed (queue.Publish q) = bus (publish_turn x made s.acts q) (publish_mild x made s.acts q)
+  queue_fair made name failed (queue.Ring q size) = placed (ring_turn x made s.acts q size) (ring_fair x made s.acts fair q size)
+  queue_fair made name failed (queue.Unring q) = placed (unring_turn made s.acts q) (unring_fair x made s.acts fair q)
+  queue_fair made name failed (queue.Add q parts) = placed (add_turn made s.acts q parts) (add_fair x made s.acts fair q parts)
+  queue_fair made name failed (queue.Publish q) = placed (publish_turn x made s.acts q) (publish_fair x made s.acts fair q)
   queue_fair made name failed (queue.Submit q asked) = placed (submit_turn x made s.acts q asked) (submit_fair x made s.acts fair q asked)
   queue_fair made name failed (queue.Poll q) = placed (poll_turn x made s.acts q) (poll_fair x made s.acts fair q)
 
@@ -173,4 +170,4 @@ position_law x h = record {
 }
 
 pub chain_law : (x : Setting) (h : History) → ChainLaw x h
-chain_law x h = λ d acts m e q ring there. apart_after acts q ring (moment_fair x h d acts m) e there
+chain_law x h = λ d acts m q e ring there. apart_after acts q ring (moment_fair x h d acts m) e there

@@ -3,6 +3,7 @@ pub mod Instances
 pub mod Drivers
 pub mod Mild
 pub mod Nodes
+pub mod Leaves
 pub mod Fair
 pub mod Takes
 pub mod Hands

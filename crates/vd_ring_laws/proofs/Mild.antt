@@ -1,4 +1,4 @@
--- Lines that neither place a chain nor fetch, finish or reclaim one.
+-- Lines that act on no queue's ring.
 use Rattle.std.proofs.Common.{◌≡◌, ℕ, zero, suc, ◌*◌, Bool, true, false, refl, ap, ◌∙◌, Option, None, Some, List, [], ◌∷◌, ◌++◌, take, drop, ◌&&◌, ◌==◌, map, find, if◌then◌else◌}
 use Rattle.std.specs.Prelude.{Result, Ok, Err}
 use Rattle.std.specs.List.{list_all}
@@ -28,12 +28,10 @@ use Rattle.vd_model.specs.DaemonTurns as daemon
 use Rattle.vd_model.specs.RingTurns as ring
 use Rattle.vd_ring_laws.proofs.Drivers.{is_driver, are_driver, unring_acts_driver}
 
--- the act neither places a chain nor fetches, finishes or reclaims one
+-- the act is none on a queue's ring, and takes no step of the block daemon's position
 abbrev pub is_mild : Act → Bool
-is_mild (Queue (Fetched q)) = false
-is_mild (Queue (Finished q)) = false
-is_mild (Queue (Chain_added q chain)) = false
-is_mild (Queue (Chain_reclaimed q head)) = false
+is_mild (Queue (Executed q status bytes)) = true
+is_mild (Queue act) = false
 is_mild _ = true
 
 abbrev pub are_mild : List Act → Bool
@@ -109,20 +107,3 @@ executed_mild q b result = append_mild (daemon.stored b result) (Queue (Executed
 
 pub execute_mild : (x : Setting) (made : Creation) (disk : block.Disk) (failed : Bool) (done : List Act) (q : ℕ) → Mild (daemon.execute_turn x made disk failed done q)
 execute_mild x made disk failed done q = search (refuse_mild, option_mild, executed_mild)
-
--- ---- the driver's ring
-
-pub ring_mild : (x : Setting) (made : Creation) (done : List Act) (q size : ℕ) → Mild (ring.ring_turn x made done q size)
-ring_mild x made done q size = search (refuse_mild, option_mild)
-
-on_ring_mild : (made : Creation) (done : List Act) (q : ℕ) (turn : Ring → Turn Act) → ((r : Ring) → Mild (turn r)) → Mild (ring.on_ring made done q turn)
-on_ring_mild made done q turn h = search (refuse_mild, option_mild, h)
-
-pub unring_mild : (made : Creation) (done : List Act) (q : ℕ) → Mild (ring.unring_turn made done q)
-unring_mild made done q = on_ring_mild made done q _ (λ r.
-    let acts = ring.region_freed (live_regions done) r.region ++ ring.requests_ended (live done) (ring.by_head (out done q) r.place.size) in
-    refuse_mild (given (is_ready (state_acts done) q) Busy) (done_with [] (Queue (Ring_dropped q) ∷ acts)) (drivers_are_mild acts (unring_acts_driver done q r)))
-
-pub publish_mild : (x : Setting) (made : Creation) (done : List Act) (q : ℕ) → Mild (ring.publish_turn x made done q)
-publish_mild x made done q = search (on_ring_mild)
-

@@ -71,10 +71,10 @@ pub record Outs (acts : List Act) (q : ℕ) : Type 0 where
   pub published : (c : Added) → Among c (published_out acts q) → Among c (out acts q)
 
 module _ (acts : List Act) (q : ℕ) (o : Outs acts q) where
-  added_outs : (k : ℕ) (chain : Added) → IsTaken acts k chain → 0 < length chain.descriptors → Outs (Queue (Chain_added k chain) ∷ acts) q
+  added_outs : (k : ℕ) (chain : Added) → IsTaken acts k chain → ((k == q) ≡ true → 0 < length chain.descriptors) → Outs (Queue (Chain_added k chain) ∷ acts) q
   added_outs k chain t some = record { apart = apart_by (k == q) refl; counted = counted_by (k == q); published = published_by (k == q) } where
     apart_by : (b : Bool) → (k == q) ≡ b → Apart (ring_of acts q) (cond b (out acts q ++ chain ∷ []) (out acts q))
-    apart_by true e = push_apart acts q chain (subst (λ k. IsTaken acts k chain) (eqb-true k q e) t) some o.apart
+    apart_by true e = push_apart acts q chain (subst (λ k. IsTaken acts k chain) (eqb-true k q e) t) (some e) o.apart
     apart_by false e = o.apart
 
     counted_by : (b : Bool) (r : Ring) → ring_of acts q ≡ Some r → cond b (added acts q + 1) (added acts q) ≡ reclaimed acts q + length (cond b (out acts q ++ chain ∷ []) (out acts q))
@@ -137,27 +137,38 @@ module _ (acts : List Act) (q : ℕ) (o : Outs acts q) where
     published_by true c h = h
     published_by false c h = o.published c h
 
-later_have : (act : Act) (acts : List Act) → have_descriptors (act ∷ acts) ≡ true → have_descriptors acts ≡ true
-later_have (Queue (Chain_added k chain)) acts e = (and_parts (nat_lt 0 (length chain.descriptors)) (have_descriptors acts) e).1
-later_have _ acts e = e
+made_first : (acts : List Act) (q : ℕ) (place : RingPlace) (region : ℕ) (b : Bool) → (k : ℕ) → (k == q) ≡ b → (cond b true (have_descriptors acts q) ≡ true) → (have_descriptors acts q ≡ true → Outs acts q) → Outs (Queue (Ring_made k place region) ∷ acts) q
+made_first acts q place region true k e h later = record {
+  apart = subst (λ b. Apart (cond b (Some (record { place = place; region = region })) (ring_of acts q)) (cond b [] (out acts q))) (sym e) (none_apart _);
+  counted = subst (λ b. (r : Ring) → cond b (Some (record { place = place; region = region })) (ring_of acts q) ≡ Some r → cond b 0 (added acts q) ≡ cond b 0 (reclaimed acts q) + length (cond b [] (out acts q))) (sym e) (λ r i. refl);
+  published = subst (λ b. (c : Added) → Among c (cond b [] (published_out acts q)) → Among c (cond b [] (out acts q))) (sym e) (λ c i. i);
+}
+made_first acts q place region false k e h later = made_outs acts q (later h) k place region
 
-next_outs : (act : Act) (acts : List Act) (q : ℕ) → Fair (act ∷ acts) → have_descriptors (act ∷ acts) ≡ true → Outs acts q → Outs (act ∷ acts) q
-next_outs (Queue (Chain_added k chain)) acts q h e o = added_outs acts q o k chain h.0 (ltb-true 0 (length chain.descriptors) (and_parts (nat_lt 0 (length chain.descriptors)) (have_descriptors acts) e).0)
-next_outs (Queue (Chain_reclaimed k head)) acts q h e o = reclaimed_outs acts q o k head h.0.0 h.0.1 h.0.2
-next_outs (Queue (Chains_published k)) acts q h e o = published_outs acts q o k
-next_outs (Queue (Ring_made k place region)) acts q h e o = made_outs acts q o k place region
-next_outs (Queue (Ring_dropped k)) acts q h e o = dropped_outs acts q o k
-next_outs _ acts q h e o = record { apart = o.apart; counted = o.counted; published = o.published }
+added_first : (acts : List Act) (q k : ℕ) (chain : Added) → IsTaken acts k chain → (b : Bool) → (k == q) ≡ b → cond b (nat_lt 0 (length chain.descriptors) && have_descriptors acts q) (have_descriptors acts q) ≡ true
+    → (have_descriptors acts q ≡ true → Outs acts q) → Outs (Queue (Chain_added k chain) ∷ acts) q
+added_first acts q k chain t true e h later =
+    let p = and_parts (nat_lt 0 (length chain.descriptors)) (have_descriptors acts q) h in
+    added_outs acts q (later p.1) k chain t (λ f. ltb-true 0 (length chain.descriptors) p.0)
+added_first acts q k chain t false e h later = added_outs acts q (later h) k chain t (λ f. absurd (true≢false (sym f ∙ e)))
 
-pub outs_after : (acts : List Act) (q : ℕ) → Fair acts → have_descriptors acts ≡ true → Outs acts q
+next_outs : (act : Act) (acts : List Act) (q : ℕ) → Fair (act ∷ acts) → have_descriptors (act ∷ acts) q ≡ true → (have_descriptors acts q ≡ true → Outs acts q) → Outs (act ∷ acts) q
+next_outs (Queue (Chain_added k chain)) acts q h e later = added_first acts q k chain h.0 (k == q) refl e later
+next_outs (Queue (Chain_reclaimed k head)) acts q h e later = reclaimed_outs acts q (later e) k head h.0.0 h.0.1 h.0.2
+next_outs (Queue (Chains_published k)) acts q h e later = published_outs acts q (later e) k
+next_outs (Queue (Ring_made k place region)) acts q h e later = made_first acts q place region (k == q) k refl e later
+next_outs (Queue (Ring_dropped k)) acts q h e later = dropped_outs acts q (later e) k
+next_outs _ acts q h e later = let o = later e in record { apart = o.apart; counted = o.counted; published = o.published }
+
+pub outs_after : (acts : List Act) (q : ℕ) → Fair acts → have_descriptors acts q ≡ true → Outs acts q
 outs_after [] q h e = record { apart = none_apart None; counted = λ r e. refl; published = λ c h. h }
-outs_after (act ∷ acts) q h e = next_outs act acts q h e (outs_after acts q h.1 (later_have act acts e))
+outs_after (act ∷ acts) q h e = next_outs act acts q h e (outs_after acts q h.1)
 
 heads_length : (chains : List Added) → length (heads chains) ≡ length chains
 heads_length [] = refl
 heads_length (c ∷ chains) = ap (λ n. suc n) (heads_length chains)
 
-pub apart_after : (acts : List Act) (q : ℕ) (ring : Ring) → Fair acts → have_descriptors acts ≡ true → ring_of acts q ≡ Some ring → AreApart acts q ring
+pub apart_after : (acts : List Act) (q : ℕ) (ring : Ring) → Fair acts → have_descriptors acts q ≡ true → ring_of acts q ≡ Some ring → AreApart acts q ring
 apart_after acts q ring h e there =
     let o = outs_after acts q h e in
     record {

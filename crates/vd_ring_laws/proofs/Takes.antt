@@ -3,15 +3,16 @@ use Rattle.std.proofs.Common.{◌≡◌, ℕ, zero, suc, ◌+◌, ◌<◌, Bool,
 use Rattle.std.specs.Option.{option_map_or}
 use Rattle.std.proofs.lemmas.Bool.{not-true}
 use Rattle.vd_num.specs.Field.{field_at}
-use Rattle.vd_num.specs.declared.errno.Errno.TheVariants.{Noent, Again, Inval, Nospc}
+use Rattle.vd_num.specs.declared.errno.Errno.TheVariants.{Noent, Again, Inval, Nospc, Busy}
 use Rattle.vd_model.specs.declared.answer.Answer.TheVariants as answer
 use Rattle.vd_model.specs.declared.parts.Part.{Part}
 use Rattle.vd_model.specs.declared.queue.RingPlace.{RingPlace}
 use Rattle.vd_model.specs.declared.step.SubmitForm.{SubmitForm}
 use Rattle.vd_model.specs.Setting.{Setting}
 use Rattle.vd_model.specs.Creation.{Creation}
-use Rattle.vd_model.specs.Acts.{Act, Added, Request, Driver, Queue, Streaming, Chain_reclaimed}
-use Rattle.vd_model.specs.Live.{buffers, buffered, maps, live}
+use Rattle.vd_model.specs.Acts.{Act, Added, Request, Driver, Queue, Streaming, Chain_reclaimed, state_acts}
+use Rattle.vd_model.specs.Live.{buffers, buffered, maps, live, live_regions}
+use Rattle.vd_model.specs.State.{is_ready}
 use Rattle.vd_model.specs.Place.{taken}
 use Rattle.vd_model.specs.Puts.{bus_bytes}
 use Rattle.vd_model.specs.Queues.{Ring, ring_of, added, reclaimed, published, out, published_out, below, is_used, free}
@@ -20,12 +21,13 @@ use Rattle.vd_model.specs.Turn.{Turn, refuse, refused, given}
 use Rattle.vd_model.specs.BusTurns.{is_missing}
 use Rattle.vd_model.specs.DriverTurns.{buffer_limit}
 use Rattle.vd_model.specs.DaemonTurns.{has_indirect}
-use Rattle.vd_model.specs.RingTurns.{on_ring, first_of, slot_put, descriptor_puts, is_out_of_order, is_full, add_turn, Asked, asked_by, want_refusal, made_len, needed, part_wants, table_wants, placed, part_of, parts_count, request_puts, map_acts, buffer_acts, writable_of, submitted, submit_asked, submit_turn, number_at, used_event_puts, request_ended, completed, reclaimed_turn, polled, poll_turn}
+use Rattle.vd_model.specs.RingTurns.{on_ring, first_of, slot_put, descriptor_puts, is_out_of_order, is_full, add_turn, ring_turn, unring_turn, publish_turn, region_freed, requests_ended, by_head, Asked, asked_by, want_refusal, made_len, needed, part_wants, table_wants, placed, part_of, parts_count, request_puts, map_acts, buffer_acts, writable_of, submitted, submit_asked, submit_turn, number_at, used_event_puts, request_ended, completed, reclaimed_turn, polled, poll_turn}
 use Rattle.vd_laws.specs.Among.{Among}
 use Rattle.vd_laws.proofs.Lists.{pushed, filtered, found}
-use Rattle.vd_ring_laws.proofs.Drivers.{are_driver, append_driver, ring_kept, out_kept, published_kept, descriptors_driver, maps_driver, buffers_driver, request_puts_driver, used_event_driver, ended_driver}
+use Rattle.vd_ring_laws.proofs.Drivers.{are_driver, append_driver, ring_kept, out_kept, published_kept, descriptors_driver, maps_driver, buffers_driver, request_puts_driver, used_event_driver, ended_driver, unring_acts_driver}
 use Rattle.vd_ring_laws.proofs.Mild.{drivers_are_mild}
-use Rattle.vd_ring_laws.proofs.Fair.{IsTaken, Fair, mild_fair, IsFair, refuse_fair, option_fair, either_fair}
+use Rattle.vd_ring_laws.proofs.Leaves.{refuse_is, on_ring_is, ring_is, submit_is, poll_is}
+use Rattle.vd_ring_laws.proofs.Fair.{IsTaken, Fair, mild_fair}
 
 -- ---- free descriptors
 
@@ -58,14 +60,21 @@ module _ (done : List Act) (fair : Fair done) (q : ℕ) where
     first = refl;
   }
 
-  on_ring_fair : (made : Creation) (turn : Ring → Turn Act) → ((ring : Ring) → ring_of done q ≡ Some ring → IsFair done fair (turn ring)) → IsFair done fair (on_ring made done q turn)
-  on_ring_fair made turn h =
-      refuse_fair done fair (given (is_missing made q) Inval) _ (λ e. option_fair done fair turn (ring_of done q) Noent h)
+pub ring_fair : (x : Setting) (made : Creation) (done : List Act) → Fair done → (q size : ℕ) → Fair ((ring_turn x made done q size).acts ++ done)
+ring_fair x made done fair q size = ring_is (λ acts. Fair (acts ++ done)) fair x made done q size (λ slot. (tt, (tt, fair)))
 
-pub add_fair : (made : Creation) (done : List Act) → Fair done → (q : ℕ) (parts : List Part) → Fair ((add_turn made done q parts).acts ++ done)
-add_fair made done fair q parts = on_ring_fair done fair q made _ (λ ring e.
-    refuse_fair done fair (given (is_out_of_order parts) Inval) _ (λ f.
-    refuse_fair done fair (given (is_full ring.place.size (out done q) (length parts)) Nospc) _ (λ g.
+pub unring_fair : (x : Setting) (made : Creation) (done : List Act) → Fair done → (q : ℕ) → Fair ((unring_turn made done q).acts ++ done)
+unring_fair x made done fair q = on_ring_is (λ acts. Fair (acts ++ done)) fair x made done q _ (λ ring e.
+    refuse_is (λ acts. Fair (acts ++ done)) fair (given (is_ready (state_acts done) q) Busy) _ (λ f.
+    (tt, drivers_fair done fair q (region_freed (live_regions done) ring.region ++ requests_ended (live done) (by_head (out done q) ring.place.size)) (unring_acts_driver done q ring))))
+
+pub publish_fair : (x : Setting) (made : Creation) (done : List Act) → Fair done → (q : ℕ) → Fair ((publish_turn x made done q).acts ++ done)
+publish_fair x made done fair q = on_ring_is (λ acts. Fair (acts ++ done)) fair x made done q _ (λ ring e. (tt, (tt, fair)))
+
+pub add_fair : (x : Setting) (made : Creation) (done : List Act) → Fair done → (q : ℕ) (parts : List Part) → Fair ((add_turn made done q parts).acts ++ done)
+add_fair x made done fair q parts = on_ring_is (λ acts. Fair (acts ++ done)) fair x made done q _ (λ ring e.
+    refuse_is (λ acts. Fair (acts ++ done)) fair (given (is_out_of_order parts) Inval) _ (λ f.
+    refuse_is (λ acts. Fair (acts ++ done)) fair (given (is_full ring.place.size (out done q) (length parts)) Nospc) _ (λ g.
     let ds = take (length parts) (free ring.place.size (out done q)) in
     let puts = slot_put ring.place (added done q) (first_of ds) ∷ descriptor_puts ring.place parts ds in
     let are : are_driver puts ≡ true = descriptors_driver ring.place parts ds in
@@ -85,14 +94,7 @@ submitted_fair x done fair q ring e indirect a ms =
     (tt, (tt, (taken_over done fair q ring e puts are (needed indirect a) (Some request), drivers_fair done fair q puts are)))
 
 pub submit_fair : (x : Setting) (made : Creation) (done : List Act) → Fair done → (q : ℕ) (asked : SubmitForm) → Fair ((submit_turn x made done q asked).acts ++ done)
-submit_fair x made done fair q asked = on_ring_fair done fair q made _ (λ ring e.
-    let indirect = has_indirect done in
-    let a = asked_by asked in
-    refuse_fair done fair (want_refusal made done a.kind a.want) _ (λ f.
-    refuse_fair done fair (given (nat_lt buffer_limit (buffered done + made_len indirect a)) Nospc) _ (λ g.
-    refuse_fair done fair (given (is_full ring.place.size (out done q) (needed indirect a)) Nospc) _ (λ h.
-    option_fair done fair _ (placed x (taken done) (maps done) (part_wants (buffers done) a ++ table_wants indirect (buffers done) a)) Nospc (λ ms i.
-    submitted_fair x done fair q ring e indirect a ms)))))
+submit_fair x made done fair q asked = submit_is (λ acts. Fair (acts ++ done)) fair x made done q asked (λ ring e f ms. submitted_fair x done fair q ring e (has_indirect done) (asked_by asked) ms)
 
 -- ---- completions
 
@@ -104,23 +106,9 @@ completed_fair x done acts chain len h = by chain.request where
       subst Fair (sym (append_assoc (request_ended (live done) r) acts done))
       (mild_fair (request_ended (live done) r) (acts ++ done) (drivers_are_mild (request_ended (live done) r) (ended_driver (live done) r)) h)
 
-reclaimed_fair : (x : Setting) (done : List Act) → Fair done → (q : ℕ) (r : RingPlace) (id len : ℕ) → Fair ((reclaimed_turn x done q r id len).acts ++ done)
-reclaimed_fair x done fair q r id len = by (find (λ chain. chain.head == id) (published_out done q)) refl where
-  by : (o : Option Added) → find (λ chain. chain.head == id) (published_out done q) ≡ o
-      → Fair ((option_map_or (λ chain. completed x done (Queue (Chain_reclaimed q chain.head) ∷ used_event_puts done r (reclaimed done q + 1)) chain len) o (record { answer = answer.BadId id; acts = [] })).acts ++ done)
-  by None e = fair
-  by (Some chain) e =
-      let puts = used_event_puts done r (reclaimed done q + 1) in
-      let are = used_event_driver done r (reclaimed done q + 1) in
-      completed_fair x done (Queue (Chain_reclaimed q chain.head) ∷ puts) chain len
-      ((chain, subst (Among chain) (sym (published_kept puts done q are)) (found (λ chain. chain.head == id) chain (published_out done q) e), refl), drivers_fair done fair q puts are)
-
 pub poll_fair : (x : Setting) (made : Creation) (done : List Act) → Fair done → (q : ℕ) → Fair ((poll_turn x made done q).acts ++ done)
-poll_fair x made done fair q = on_ring_fair done fair q made _ (λ ring e.
-    let used = number_at x done (used_index_at ring.place) in
-    refuse_fair done fair (given (used == reclaimed done q % 65536) Again) _ (λ f.
-    either_fair done fair (nat_lt (length (published_out done q)) (minus16 used (reclaimed done q % 65536))) (record { answer = answer.UsedAhead used (published done q % 65536); acts = [] })
-    (reclaimed_turn x done q ring.place
-    (field_at 4 (bus_bytes x.per_page done (used_element_at ring.place (reclaimed done q)) 8) 0)
-    (field_at 4 (bus_bytes x.per_page done (used_element_at ring.place (reclaimed done q)) 8) 4)) fair
-    (reclaimed_fair x done fair q ring.place _ _)))
+poll_fair x made done fair q = poll_is (λ acts. Fair (acts ++ done)) fair x made done q (λ r chain there len.
+    let puts = used_event_puts done r (reclaimed done q + 1) in
+    let are = used_event_driver done r (reclaimed done q + 1) in
+    completed_fair x done (Queue (Chain_reclaimed q chain.head) ∷ puts) chain len
+    ((chain, subst (Among chain) (sym (published_kept puts done q are)) there, refl), drivers_fair done fair q puts are))

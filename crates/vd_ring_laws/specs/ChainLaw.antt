@@ -1,17 +1,19 @@
 -- The chains that are out on a ring.
-use Rattle.std.specs.Prelude.{ℕ, ◌+◌, ◌≤◌, ◌<◌, List, [], ◌∷◌, length, map, Bool, true, false, IsTrue, nat_lt, ◌&&◌, Some, ◌≡◌}
+use Rattle.std.specs.Prelude.{ℕ, ◌+◌, ◌≤◌, ◌<◌, List, [], ◌∷◌, length, map, Bool, true, false, IsTrue, nat_lt, ◌&&◌, ◌==◌, if◌then◌else◌, Some, ◌≡◌}
 use Rattle.vd_model.specs.Setting.{Setting}
-use Rattle.vd_model.specs.Acts.{Act, Queue, Added, Chain_added}
+use Rattle.vd_model.specs.Acts.{Act, Queue, Added, Ring_made, Chain_added}
 use Rattle.vd_model.specs.Queues.{Ring, ring_of, added, reclaimed, out, published_out}
 use Rattle.vd_model.specs.History.{History}
 use Rattle.vd_laws.specs.Among.{Among}
 use Rattle.vd_laws.specs.Runs.{IsMoment}
 
--- each chain that was placed has a descriptor
-abbrev pub have_descriptors : List Act → Bool
-have_descriptors [] = true
-have_descriptors (Queue (Chain_added k chain) ∷ acts) = nat_lt 0 (length chain.descriptors) && have_descriptors acts
-have_descriptors (_ ∷ acts) = have_descriptors acts
+-- each chain that was placed on the ring has a descriptor
+abbrev pub have_descriptors : List Act → ℕ → Bool
+have_descriptors [] q = true
+have_descriptors (Queue (Chain_added k chain) ∷ acts) q =
+    if k == q then nat_lt 0 (length chain.descriptors) && have_descriptors acts q else have_descriptors acts q
+have_descriptors (Queue (Ring_made k place region) ∷ acts) q = if k == q then true else have_descriptors acts q
+have_descriptors (_ ∷ acts) q = have_descriptors acts q
 
 -- the heads of some chains
 abbrev pub heads : List Added → List ℕ
@@ -35,7 +37,7 @@ pub record AreApart (acts : List Act) (q : ℕ) (ring : Ring) : Type 0 where
   -- and those that were published are among them
   pub published : (chain : Added) → Among chain (published_out acts q) → Among chain (out acts q)
 
--- at each moment of a history at which no chain without a descriptor was placed
+-- at each moment of a history, on a ring on which no chain without a descriptor was placed
 abbrev pub ChainLaw : Setting → History → Type 0
-ChainLaw x h = (d : List ℕ) (acts : List Act) → IsMoment x h d acts → IsTrue (have_descriptors acts)
-    → (q : ℕ) (ring : Ring) → ring_of acts q ≡ Some ring → AreApart acts q ring
+ChainLaw x h = (d : List ℕ) (acts : List Act) → IsMoment x h d acts → (q : ℕ) → IsTrue (have_descriptors acts q)
+    → (ring : Ring) → ring_of acts q ≡ Some ring → AreApart acts q ring
