@@ -75,7 +75,7 @@ put_kept : (act : Act) (acts : List Act) (q : ℕ) → is_put act ≡ true → i
 put_kept (Node (Daemon_put at bytes)) acts q e = refl
 put_kept _ acts q e = cc
 
-put_mild : (act : Act) → is_put act ≡ true → is_mild act ≡ true
+pub put_mild : (act : Act) → is_put act ≡ true → is_mild act ≡ true
 put_mild (Node (Daemon_put at bytes)) e = refl
 put_mild _ e = cc
 
@@ -97,7 +97,7 @@ spread_put (part ∷ parts) bytes acts e = by part.writable
       by false there other = other
 
 
-event_put : (done : List Act) (place : RingPlace) (position : ℕ) → list_all is_put (event_puts done place position) ≡ true
+pub event_put : (done : List Act) (place : RingPlace) (position : ℕ) → list_all is_put (event_puts done place position) ≡ true
 event_put done place position = by (has_event_idx done) where
   by : (b : Bool) → list_all is_put (if b then Node (Daemon_put (available_event_at place) (little_bytes 2 position)) ∷ [] else []) ≡ true
   by true = refl

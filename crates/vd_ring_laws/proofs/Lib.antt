@@ -10,3 +10,4 @@ pub mod Hands
 pub mod Distincts
 pub mod Outs
 pub mod Fairs
+pub mod Calms

@@ -1,3 +1,4 @@
 pub mod OrderInstances
 pub mod PositionLaw
 pub mod ChainLaw
+pub mod CalmLaw

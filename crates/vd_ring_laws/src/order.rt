@@ -2,6 +2,7 @@
 
 ghost use Rattle.vd_model.specs.Setting.{Setting};
 ghost use Rattle.vd_model.specs.History.{History};
+ghost use Rattle.vd_ring_laws.specs.CalmLaw.{CalmLaw};
 ghost use Rattle.vd_ring_laws.specs.ChainLaw.{ChainLaw};
 ghost use Rattle.vd_ring_laws.specs.PositionLaw.{PositionLaw};
 ghost use Rattle.vd_ring_laws.specs.OrderInstances.{OrderInstances};
@@ -16,6 +17,11 @@ pub fn positions()
 /// descriptors.
 pub fn chains_out()
     ensures { (x : Setting) (h : History) → ChainLaw x h }
+{}
+
+/// On each ring of a calm history requests alone were placed, and those that are out are apart.
+pub fn calm_rings()
+    ensures { (x : Setting) (h : History) → CalmLaw x h }
 {}
 
 /// The condition of the order law is met by a small history, in which a request is finished.
