@@ -1,5 +1,5 @@
 -- What the lines of a calm span add to the acts of a device.
-use Rattle.std.proofs.Common.{◌≡◌, ℕ, zero, suc, ◌+◌, ◌<◌, Bool, true, false, refl, ap, subst, ◌∙◌, sym, arith, cond, Option, None, Some, is_some, List, [], ◌∷◌, ◌++◌, ◌==◌, ◌&&◌, not, nat_lt, map, take, length, append_assoc, if◌then◌else◌, true≢false, eqb-true, inl, inr}
+use Rattle.std.proofs.Common.{◌≡◌, ℕ, zero, suc, ◌+◌, ◌<◌, Bool, true, false, refl, ap, subst, ◌∙◌, sym, arith, cond, Option, None, Some, is_some, List, [], ◌∷◌, ◌++◌, ◌==◌, ◌&&◌, not, nat_lt, map, take, length, append_assoc, if◌then◌else◌, true≢false, inl, inr}
 use Rattle.std.specs.Bool.{IsTrue}
 use Rattle.std.specs.Str.{bytes_eq}
 use Rattle.std.specs.List.{list_all}
@@ -7,15 +7,12 @@ use Rattle.std.proofs.lemmas.Bool.{and_parts, and_from, lt-ltb}
 use Rattle.std.proofs.lemmas.Bool.Decides.{nat_tests}
 use Rattle.std.proofs.lemmas.List.{append_cancel_right, length-append}
 use Rattle.vd_num.specs.declared.errno.Errno.TheVariants.{Badf, Nodev}
-use Rattle.vd_model.specs.declared.queue.RingPlace.{RingPlace}
 use Rattle.vd_model.specs.declared.step.Step.{Step}
 use Rattle.vd_model.specs.declared.step.Step.TheVariants.{Control, Device, Queue}
 use Rattle.vd_model.specs.declared.step.ControlStep.{ControlStep}
 use Rattle.vd_model.specs.declared.step.ControlStep.TheVariants as control
-use Rattle.vd_model.specs.declared.step.DevStep.{DevStep}
 use Rattle.vd_model.specs.declared.step.QueueStep.{QueueStep}
 use Rattle.vd_model.specs.declared.step.QueueStep.TheVariants as queue
-use Rattle.vd_model.specs.declared.step.SubmitForm.{SubmitForm}
 use Rattle.vd_model.specs.Setting.{Setting}
 use Rattle.vd_model.specs.Creation.{Creation}
 use Rattle.vd_model.specs.Acts.{Act, Added, Request, Streaming, Bus, State, Node, Message_act, Attached, Opened, Ring_made, Ring_dropped, Chain_added, Chain_reclaimed, Fetched}
@@ -23,10 +20,10 @@ use Rattle.vd_model.specs.Acts as act
 use Rattle.vd_model.specs.Messages.{Elapsed}
 use Rattle.vd_model.specs.State.{Max_set}
 use Rattle.vd_model.specs.Raw.{control_step}
-use Rattle.vd_model.specs.Live.{is_open, is_attached, live, buffers, maps}
-use Rattle.vd_model.specs.Turn.{Turn, given, refuse}
+use Rattle.vd_model.specs.Live.{is_open, is_attached, live}
+use Rattle.vd_model.specs.Turn.{Turn, given}
 use Rattle.vd_model.specs.Rings.{next16}
-use Rattle.vd_model.specs.Queues.{Ring, ring_of, added, reclaimed, out, free, in_hand}
+use Rattle.vd_model.specs.Queues.{Ring, ring_of, added, reclaimed, out, free}
 use Rattle.vd_model.specs.DaemonTurns.{has_indirect, event_puts, hand, used_position, queue_place, finish_puts, fetch_turn, execute_turn, finish_turn}
 use Rattle.vd_model.specs.RingTurns.{first_of, slot_put, request_puts, map_acts, buffer_acts, Asked, asked_by, parts_count, needed, part_of, submitted, submit_turn, ring_turn, poll_turn, completed, request_ended, used_event_puts}
 use Rattle.vd_model.specs.Deeds.{Deed, Made, own, clock, Seen, seen}
@@ -35,14 +32,14 @@ use Rattle.vd_model.specs.History.{Entry, History, deeds_of, disk_of, needs_sess
 use Rattle.vd_model.specs.Agree.{plain_concerns, raw_concerns, control_concerns, concerns}
 use Rattle.vd_laws.specs.Among.{Among}
 use Rattle.vd_laws.specs.Runs.{acts_of}
-use Rattle.vd_laws.specs.Calm.{is_calm, is_calm_queue_line, IsCalm}
+use Rattle.vd_laws.specs.Calm.{is_calm, is_calm_queue_line}
 use Rattle.vd_laws.specs.BlockLaw.{placed}
 use Rattle.vd_laws.proofs.Kept.{granted, raw_granted, control_granted, if_done_either, control_does}
 use Rattle.vd_laws.proofs.Histories.{own_other}
 use Rattle.vd_laws.proofs.Turns.{own_on}
 use Rattle.vd_ring_laws.specs.ChainLaw.{have_descriptors}
 use Rattle.vd_ring_laws.specs.CalmLaw.{CalmLaw}
-use Rattle.vd_ring_laws.proofs.Mild.{is_mild, are_mild, Mild, drivers_are_mild, execute_mild}
+use Rattle.vd_ring_laws.proofs.Mild.{is_mild, are_mild, drivers_are_mild, execute_mild}
 use Rattle.vd_ring_laws.proofs.Drivers.{are_driver, append_driver, maps_driver, buffers_driver, request_puts_driver, used_event_driver, ended_driver}
 use Rattle.vd_ring_laws.proofs.Leaves.{refuse_is, option_is, fetch_is, finish_is, ring_is, submit_is, poll_is}
 use Rattle.vd_ring_laws.proofs.Fair.{is_put, put_mild, event_put, finish_put}

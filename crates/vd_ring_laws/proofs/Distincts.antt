@@ -1,12 +1,12 @@
 -- Lists of distinct numbers.
-use Rattle.std.proofs.Common.{◌≡◌, ℕ, zero, suc, ◌+◌, ◌<◌, ◌≤◌, Bool, true, false, refl, ap, subst, ◌∙◌, sym, arith, cond, List, [], ◌∷◌, ◌++◌, ◌==◌, not, map, length, eqb-true, ◌⊎◌, inl, inr}
-use Rattle.std.specs.List.{list_any, filter}
+use Rattle.std.proofs.Common.{◌≡◌, ℕ, zero, suc, ◌+◌, ◌<◌, ◌≤◌, Bool, true, false, refl, ap, subst, ◌∙◌, sym, arith, cond, List, [], ◌∷◌, ◌++◌, ◌==◌, not, length, eqb-true, ◌⊎◌, inl, inr}
+use Rattle.std.specs.List.{filter}
 use Rattle.std.proofs.lemmas.Bool.{ne_eqb}
 use Rattle.std.proofs.lemmas.Bool.Decides.{nat_tests}
 use Rattle.vd_model.specs.Acts.{Added}
 use Rattle.vd_model.specs.Queues.{is_other}
 use Rattle.vd_laws.specs.Among.{Among}
-use Rattle.vd_laws.proofs.Lists.{pushed, filtered, push_left}
+use Rattle.vd_laws.proofs.Lists.{pushed, filtered}
 use Rattle.vd_ring_laws.specs.ChainLaw.{heads, AreDistinct}
 
 pub distinct_push : (ns : List ℕ) (n : ℕ) → AreDistinct ns → (Among n ns → ⊥) → AreDistinct (ns ++ n ∷ [])

@@ -1,25 +1,16 @@
 -- Acts of the driver on its memory, which touch no chain.
-use Rattle.std.proofs.Common.{◌≡◌, ℕ, zero, suc, Bool, true, false, refl, ap, ◌∙◌, Option, None, Some, List, [], ◌∷◌, ◌++◌, take, drop, ◌&&◌, ◌==◌, map, find, if◌then◌else◌}
-use Rattle.std.specs.Prelude.{Result, Ok, Err}
+use Rattle.std.proofs.Common.{◌≡◌, ℕ, zero, suc, Bool, true, false, refl, ap, ◌∙◌, Option, None, Some, List, [], ◌∷◌, ◌++◌, ◌&&◌, ◌==◌, find, if◌then◌else◌}
 use Rattle.std.specs.List.{list_all}
 use Rattle.std.specs.Option.{option_map_or}
 use Rattle.std.proofs.lemmas.Bool.{and_parts}
 use Rattle.std.proofs.lemmas.List.Folds.{list_all-append}
-use Rattle.vd_num.specs.declared.errno.Errno.{Errno}
 use Rattle.vd_model.specs.declared.queue.RingPlace.{RingPlace}
 use Rattle.vd_model.specs.declared.parts.Part.{Part}
-use Rattle.vd_model.specs.declared.parts.Chain.{Chain}
-use Rattle.vd_model.specs.declared.step.SubmitForm.{SubmitForm}
-use Rattle.vd_model.specs.Setting.{Setting}
-use Rattle.vd_model.specs.Creation.{Creation}
 use Rattle.vd_model.specs.Live.{live, live_regions}
-use Rattle.vd_model.specs.Rings.{next16, number16, used_event_at, available_event_at}
+use Rattle.vd_model.specs.Rings.{used_event_at}
 use Rattle.vd_model.specs.Raw.{little_bytes}
-use Rattle.vd_model.specs.Acts.{Act, NodeAct, DriverAct, Daemon_put, Driver_put, Mapped, Fetched, Unmapped, Region_freed, Streaming, Coherent, Added, Request, Node, Driver, Bus, Message_act, State, Queue, Disk, message_acts}
-use Rattle.vd_model.specs.Memory.{Memory}
-use Rattle.vd_model.specs.Trace.{Ending, whole, faulty, missing}
-use Rattle.vd_model.specs.Turn.{Turn, refuse}
-use Rattle.vd_model.specs.Queues.{Ring, ring_of, out, published_out, Executed_as}
+use Rattle.vd_model.specs.Acts.{Act, Driver_put, Mapped, Unmapped, Region_freed, Streaming, Coherent, Added, Request, Driver}
+use Rattle.vd_model.specs.Queues.{Ring, ring_of, out, published_out}
 use Rattle.vd_model.specs.DaemonTurns as daemon
 use Rattle.vd_model.specs.RingTurns as ring
 
@@ -126,4 +117,3 @@ used_event_driver done r position = by (daemon.has_event_idx done) where
   by : (b : Bool) → are_driver (if b then Driver (Driver_put (used_event_at r) (little_bytes 2 position)) ∷ [] else []) ≡ true
   by true = refl
   by false = refl
-

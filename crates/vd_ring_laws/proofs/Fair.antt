@@ -1,29 +1,19 @@
 -- What was tested before a chain is placed or reclaimed, and before a request is fetched or finished.
-use Rattle.std.proofs.Common.{subst, sym, append_assoc, ◌<◌, ◌≡◌, ℕ, Bool, true, false, refl, ap, ◌∙◌, Option, None, Some, Result, Ok, Err, List, [], ◌∷◌, ◌++◌, ◌==◌, ◌||◌, not, nat_lt, drop, take, is_some, if◌then◌else◌}
+use Rattle.std.proofs.Common.{subst, sym, append_assoc, ◌<◌, ◌≡◌, ℕ, Bool, true, false, refl, ap, ◌∙◌, None, Some, List, [], ◌∷◌, ◌++◌, drop, take, is_some, if◌then◌else◌}
 use Rattle.std.specs.List.{list_all}
-use Rattle.std.specs.Option.{option_map_or}
 use Rattle.std.proofs.lemmas.Bool.{and_parts}
-use Rattle.vd_num.specs.declared.errno.Errno.{Errno}
-use Rattle.vd_num.specs.declared.errno.Errno.TheVariants.{Noent, Again, Busy, Inval}
-use Rattle.vd_model.specs.declared.answer.Answer.TheVariants as answer
 use Rattle.vd_model.specs.declared.parts.Part.{Part}
-use Rattle.vd_model.specs.declared.parts.Chain.{Chain}
 use Rattle.vd_model.specs.declared.queue.RingPlace.{RingPlace}
 use Rattle.vd_model.specs.Setting.{Setting}
 use Rattle.vd_model.specs.Creation.{Creation}
 use Rattle.vd_model.specs.Acts.{Act, Added, Node, Queue, Daemon_put, Chain_added, Chain_reclaimed, Fetched, Finished, state_acts}
 use Rattle.vd_model.specs.State.{is_ready}
-use Rattle.vd_model.specs.Memory.{Memory, read}
-use Rattle.vd_model.specs.Trace.{Ending, whole, faulty, missing, start_of, ending_of}
-use Rattle.vd_model.specs.Queues.{Ring, ring_of, out, published_out, is_used, in_hand, fetches, executed, Executed_as}
-use Rattle.vd_model.specs.Rings.{number16, available_index_at, available_slot_at, available_event_at, used_element_at, used_index_at, minus16, next16}
-use Rattle.vd_model.specs.Turn.{Turn, refuse, refused, given}
+use Rattle.vd_model.specs.Queues.{Ring, ring_of, out, published_out, is_used, in_hand, Executed_as}
+use Rattle.vd_model.specs.Rings.{available_event_at, next16}
 use Rattle.vd_model.specs.Raw.{little_bytes}
-use Rattle.vd_model.specs.BusTurns.{is_missing}
-use Rattle.vd_model.specs.DaemonTurns.{event_puts, daemon_memory, queue_place, has_indirect, has_event_idx, chain_or, read_or, first_used, moved, readable_bytes, event_or, fetched_turn, fetch_chain, fetch_at, fetch_from, is_idle, fetch_turn, Hand, hand, used_position, unwritable_or, spread, deciding_field, finish_puts, finish_hand, finish_turn}
+use Rattle.vd_model.specs.DaemonTurns.{event_puts, queue_place, has_event_idx, fetch_turn, Hand, hand, used_position, spread, finish_puts, finish_turn}
 use Rattle.vd_model.specs.RingTurns.{first_of}
 use Rattle.vd_laws.specs.Among.{Among}
-use Rattle.vd_laws.proofs.Refusals.{not_given}
 use Rattle.vd_ring_laws.proofs.Leaves.{fetch_is, finish_is}
 use Rattle.vd_ring_laws.proofs.Mild.{is_mild, are_mild}
 
@@ -95,7 +85,6 @@ spread_put (part ∷ parts) bytes acts e = by part.writable
           → list_all is_put (if b then spread parts (drop part.len bytes) (Node (Daemon_put part.at (take part.len bytes)) ∷ acts) else spread parts bytes acts) ≡ true
       by true there other = there
       by false there other = other
-
 
 pub event_put : (done : List Act) (place : RingPlace) (position : ℕ) → list_all is_put (event_puts done place position) ≡ true
 event_put done place position = by (has_event_idx done) where

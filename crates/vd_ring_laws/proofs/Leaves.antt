@@ -1,9 +1,7 @@
 -- What holds of a turn's acts, where it holds of those that it makes when it isn't refused.
 use Rattle.vd_model.specs.declared.answer.Answer.TheVariants as answer
-use Rattle.std.proofs.Common.{◌<◌, ◌≡◌, ℕ, Bool, true, false, refl, ap, ◌∙◌, Option, None, Some, Result, Ok, Err, List, [], ◌∷◌, ◌++◌, ◌==◌, ◌||◌, not, nat_lt, drop, take, is_some, if◌then◌else◌, zero, suc, ◌+◌, subst, sym, arith, ◌%◌, map, find, length, ◌⊎◌, inl, inr, append_assoc}
-use Rattle.std.specs.List.{list_all}
+use Rattle.std.proofs.Common.{◌≡◌, ℕ, Bool, true, false, refl, Option, None, Some, Result, Ok, Err, List, [], ◌∷◌, ◌++◌, ◌==◌, ◌||◌, not, nat_lt, take, is_some, if◌then◌else◌, ◌+◌, ◌%◌, find, length}
 use Rattle.std.specs.Option.{option_map_or}
-use Rattle.std.proofs.lemmas.Bool.{and_parts, not-true}
 use Rattle.vd_num.specs.declared.errno.Errno.{Errno}
 use Rattle.vd_num.specs.declared.errno.Errno.TheVariants.{Noent, Again, Busy, Inval, Nospc, Exist}
 use Rattle.vd_model.specs.declared.parts.Part.{Part}
@@ -11,26 +9,25 @@ use Rattle.vd_model.specs.declared.parts.Chain.{Chain}
 use Rattle.vd_model.specs.declared.queue.RingPlace.{RingPlace}
 use Rattle.vd_model.specs.Setting.{Setting}
 use Rattle.vd_model.specs.Creation.{Creation}
-use Rattle.vd_model.specs.Acts.{Act, Added, Node, Queue, Daemon_put, Chain_added, Chain_reclaimed, Fetched, Finished, state_acts, Request, Driver, Streaming}
+use Rattle.vd_model.specs.Acts.{Act, Added, Queue, Chain_reclaimed, Fetched, Finished, state_acts, Streaming}
 use Rattle.vd_model.specs.State.{is_ready}
 use Rattle.vd_model.specs.Memory.{Memory, read}
 use Rattle.vd_model.specs.Trace.{Ending, whole, faulty, missing, start_of, ending_of}
-use Rattle.vd_model.specs.Queues.{Ring, ring_of, out, published_out, is_used, in_hand, fetches, executed, Executed_as, added, reclaimed, published, below, free}
+use Rattle.vd_model.specs.Queues.{Ring, ring_of, out, published_out, in_hand, fetches, executed, Executed_as, reclaimed, published, free}
 use Rattle.vd_model.specs.Rings.{number16, available_index_at, available_slot_at, available_event_at, used_element_at, used_index_at, minus16, next16}
 use Rattle.vd_model.specs.Turn.{Turn, refuse, refused, given}
-use Rattle.vd_model.specs.Raw.{little_bytes}
 use Rattle.vd_model.specs.BusTurns.{is_missing}
-use Rattle.vd_model.specs.DaemonTurns.{daemon_memory, queue_place, has_indirect, has_event_idx, chain_or, read_or, first_used, moved, readable_bytes, event_puts, event_or, fetched_turn, fetch_chain, fetch_at, fetch_from, is_idle, fetch_turn, Hand, hand, used_position, unwritable_or, spread, deciding_field, finish_puts, finish_hand, finish_turn}
-use Rattle.vd_model.specs.RingTurns.{first_of, on_ring, slot_put, descriptor_puts, is_out_of_order, is_full, add_turn, Asked, asked_by, want_refusal, made_len, needed, part_wants, table_wants, placed, part_of, parts_count, request_puts, map_acts, buffer_acts, writable_of, submitted, submit_asked, submit_turn, number_at, used_event_puts, request_ended, completed, reclaimed_turn, polled, poll_turn, ring_made, ring_turn, is_ring_size, ring_bytes}
+use Rattle.vd_model.specs.DaemonTurns.{daemon_memory, queue_place, has_indirect, has_event_idx, chain_or, read_or, first_used, moved, readable_bytes, event_puts, event_or, fetched_turn, fetch_chain, fetch_at, fetch_from, is_idle, fetch_turn, Hand, hand, used_position, unwritable_or, deciding_field, finish_puts, finish_hand, finish_turn}
+use Rattle.vd_model.specs.RingTurns.{on_ring, is_full, asked_by, want_refusal, made_len, needed, part_wants, table_wants, placed, submitted, submit_turn, number_at, used_event_puts, completed, reclaimed_turn, poll_turn, ring_made, ring_turn, is_ring_size, ring_bytes}
 use Rattle.vd_laws.specs.Among.{Among}
 use Rattle.vd_laws.proofs.Refusals.{not_given}
 use Rattle.vd_num.specs.Field.{field_at}
 use Rattle.vd_model.specs.declared.step.SubmitForm.{SubmitForm}
-use Rattle.vd_model.specs.Live.{buffers, buffered, maps, live}
+use Rattle.vd_model.specs.Live.{buffers, buffered, maps}
 use Rattle.vd_model.specs.Place.{taken, place_of}
 use Rattle.vd_model.specs.Puts.{bus_bytes}
 use Rattle.vd_model.specs.DriverTurns.{buffer_limit}
-use Rattle.vd_laws.proofs.Lists.{pushed, filtered, found}
+use Rattle.vd_laws.proofs.Lists.{found}
 use Rattle.vd_num.specs.Number.{pages_of}
 
 no_hand : {X : Type 0} (o : Option X) → is_some o ≡ false → o ≡ None

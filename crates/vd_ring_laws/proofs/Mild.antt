@@ -1,32 +1,20 @@
 -- Lines that act on no queue's ring.
-use Rattle.std.proofs.Common.{◌≡◌, ℕ, zero, suc, ◌*◌, Bool, true, false, refl, ap, ◌∙◌, Option, None, Some, List, [], ◌∷◌, ◌++◌, take, drop, ◌&&◌, ◌==◌, map, find, if◌then◌else◌}
+use Rattle.std.proofs.Common.{◌≡◌, ℕ, ◌*◌, Bool, true, false, refl, ap, ◌∙◌, Option, None, Some, List, [], ◌∷◌, ◌++◌, ◌&&◌, map, if◌then◌else◌}
 use Rattle.std.specs.Prelude.{Result, Ok, Err}
 use Rattle.std.specs.List.{list_all}
 use Rattle.std.specs.Option.{option_map_or}
 use Rattle.std.proofs.lemmas.Bool.{and_parts}
 use Rattle.std.proofs.lemmas.List.Folds.{list_all-append}
 use Rattle.vd_num.specs.declared.errno.Errno.{Errno}
-use Rattle.vd_model.specs.declared.queue.RingPlace.{RingPlace}
-use Rattle.vd_model.specs.declared.parts.Part.{Part}
 use Rattle.vd_model.specs.declared.parts.Chain.{Chain}
-use Rattle.vd_model.specs.declared.step.SubmitForm.{SubmitForm}
 use Rattle.vd_model.specs.Setting.{Setting}
 use Rattle.vd_model.specs.Creation.{Creation}
-use Rattle.vd_model.specs.Live.{live, live_regions}
-use Rattle.vd_model.specs.Rings.{next16, number16, used_event_at, available_event_at}
-use Rattle.vd_model.specs.Raw.{little_bytes}
-use Rattle.vd_model.specs.Acts.{Act, NodeAct, DriverAct, Daemon_put, Driver_put, Mapped, Fetched, Finished, Chain_added, Chain_reclaimed, Stored, Executed, Unmapped, Region_freed, Streaming, Coherent, Added, Request, Node, Driver, Bus, Message_act, State, Queue, Disk, message_acts, state_acts, Ring_dropped}
-use Rattle.vd_model.specs.Memory.{Memory}
+use Rattle.vd_model.specs.Acts.{Act, NodeAct, DriverAct, Stored, Executed, Node, Driver, Queue, Disk}
 use Rattle.vd_model.specs.Trace.{Ending, whole, faulty, missing}
-use Rattle.vd_model.specs.State.{is_ready}
-use Rattle.vd_model.specs.BusTurns.{done_with}
-use Rattle.vd_num.specs.declared.errno.Errno.TheVariants.{Busy}
-use Rattle.vd_model.specs.Turn.{Turn, given, refuse}
-use Rattle.vd_model.specs.Queues.{Ring, out, Executed_as}
+use Rattle.vd_model.specs.Turn.{Turn, refuse}
 use Rattle.vd_model.specs.Block as block
 use Rattle.vd_model.specs.DaemonTurns as daemon
-use Rattle.vd_model.specs.RingTurns as ring
-use Rattle.vd_ring_laws.proofs.Drivers.{is_driver, are_driver, unring_acts_driver}
+use Rattle.vd_ring_laws.proofs.Drivers.{is_driver, are_driver}
 
 -- the act is none on a queue's ring, and takes no step of the block daemon's position
 abbrev pub is_mild : Act → Bool

@@ -1,29 +1,20 @@
 -- The driver's lines place chains of free descriptors, and reclaim chains that were published.
-use Rattle.std.proofs.Common.{◌≡◌, ℕ, zero, suc, ◌+◌, ◌<◌, Bool, true, false, refl, ap, subst, ◌∙◌, sym, arith, Option, None, Some, List, [], ◌∷◌, ◌++◌, ◌==◌, ◌%◌, map, take, find, length, ◌⊎◌, inl, inr, not, nat_lt, if◌then◌else◌, append_assoc}
-use Rattle.std.specs.Option.{option_map_or}
+use Rattle.std.proofs.Common.{◌≡◌, ℕ, zero, suc, ◌+◌, ◌<◌, Bool, true, false, refl, ap, subst, ◌∙◌, sym, arith, Option, None, Some, List, [], ◌∷◌, ◌++◌, map, take, length, inl, inr, not, if◌then◌else◌, append_assoc}
 use Rattle.std.proofs.lemmas.Bool.{not-true}
-use Rattle.vd_num.specs.Field.{field_at}
-use Rattle.vd_num.specs.declared.errno.Errno.TheVariants.{Noent, Again, Inval, Nospc, Busy}
-use Rattle.vd_model.specs.declared.answer.Answer.TheVariants as answer
+use Rattle.vd_num.specs.declared.errno.Errno.TheVariants.{Inval, Nospc, Busy}
 use Rattle.vd_model.specs.declared.parts.Part.{Part}
-use Rattle.vd_model.specs.declared.queue.RingPlace.{RingPlace}
 use Rattle.vd_model.specs.declared.step.SubmitForm.{SubmitForm}
 use Rattle.vd_model.specs.Setting.{Setting}
 use Rattle.vd_model.specs.Creation.{Creation}
-use Rattle.vd_model.specs.Acts.{Act, Added, Request, Driver, Queue, Streaming, Chain_reclaimed, state_acts}
-use Rattle.vd_model.specs.Live.{buffers, buffered, maps, live, live_regions}
+use Rattle.vd_model.specs.Acts.{Act, Added, Request, Queue, Streaming, Chain_reclaimed, state_acts}
+use Rattle.vd_model.specs.Live.{buffers, live, live_regions}
 use Rattle.vd_model.specs.State.{is_ready}
-use Rattle.vd_model.specs.Place.{taken}
-use Rattle.vd_model.specs.Puts.{bus_bytes}
-use Rattle.vd_model.specs.Queues.{Ring, ring_of, added, reclaimed, published, out, published_out, below, is_used, free}
-use Rattle.vd_model.specs.Rings.{minus16, used_index_at, used_element_at}
-use Rattle.vd_model.specs.Turn.{Turn, refuse, refused, given}
-use Rattle.vd_model.specs.BusTurns.{is_missing}
-use Rattle.vd_model.specs.DriverTurns.{buffer_limit}
+use Rattle.vd_model.specs.Queues.{Ring, ring_of, added, reclaimed, out, below, is_used, free}
+use Rattle.vd_model.specs.Turn.{given}
 use Rattle.vd_model.specs.DaemonTurns.{has_indirect}
-use Rattle.vd_model.specs.RingTurns.{on_ring, first_of, slot_put, descriptor_puts, is_out_of_order, is_full, add_turn, ring_turn, unring_turn, publish_turn, region_freed, requests_ended, by_head, Asked, asked_by, want_refusal, made_len, needed, part_wants, table_wants, placed, part_of, parts_count, request_puts, map_acts, buffer_acts, writable_of, submitted, submit_asked, submit_turn, number_at, used_event_puts, request_ended, completed, reclaimed_turn, polled, poll_turn}
+use Rattle.vd_model.specs.RingTurns.{first_of, slot_put, descriptor_puts, is_out_of_order, is_full, add_turn, ring_turn, unring_turn, publish_turn, region_freed, requests_ended, by_head, Asked, asked_by, needed, part_of, parts_count, request_puts, map_acts, buffer_acts, writable_of, submitted, submit_turn, used_event_puts, request_ended, completed, poll_turn}
 use Rattle.vd_laws.specs.Among.{Among}
-use Rattle.vd_laws.proofs.Lists.{pushed, filtered, found}
+use Rattle.vd_laws.proofs.Lists.{pushed, filtered}
 use Rattle.vd_ring_laws.proofs.Drivers.{are_driver, append_driver, ring_kept, out_kept, published_kept, descriptors_driver, maps_driver, buffers_driver, request_puts_driver, used_event_driver, ended_driver, unring_acts_driver}
 use Rattle.vd_ring_laws.proofs.Mild.{drivers_are_mild}
 use Rattle.vd_ring_laws.proofs.Leaves.{refuse_is, on_ring_is, ring_is, submit_is, poll_is}

@@ -1,5 +1,5 @@
 -- The chains that are out on a ring.
-use Rattle.std.specs.Prelude.{ℕ, ◌+◌, ◌≤◌, ◌<◌, List, [], ◌∷◌, length, map, Bool, true, false, IsTrue, nat_lt, ◌&&◌, ◌==◌, if◌then◌else◌, Some, ◌≡◌}
+use Rattle.std.specs.Prelude.{ℕ, ◌+◌, ◌≤◌, ◌<◌, List, [], ◌∷◌, length, map, Bool, true, IsTrue, nat_lt, ◌&&◌, ◌==◌, if◌then◌else◌, Some, ◌≡◌}
 use Rattle.vd_model.specs.Setting.{Setting}
 use Rattle.vd_model.specs.Acts.{Act, Queue, Added, Ring_made, Chain_added}
 use Rattle.vd_model.specs.Queues.{Ring, ring_of, added, reclaimed, out, published_out}
