@@ -11,3 +11,4 @@ pub mod Distincts
 pub mod Outs
 pub mod Fairs
 pub mod Calms
+pub mod Traces

@@ -2,3 +2,4 @@ pub mod OrderInstances
 pub mod PositionLaw
 pub mod ChainLaw
 pub mod CalmLaw
+pub mod TraceLaw

@@ -5,4 +5,4 @@
 
 mod order;
 
-pub use order::{calm_rings, chains_out, instances_of_order, positions};
+pub use order::{calm_rings, chains_out, instances_of_order, positions, written_chains};

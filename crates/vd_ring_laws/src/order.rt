@@ -5,6 +5,8 @@ ghost use Rattle.vd_model.specs.History.{History};
 ghost use Rattle.vd_ring_laws.specs.CalmLaw.{CalmLaw};
 ghost use Rattle.vd_ring_laws.specs.ChainLaw.{ChainLaw};
 ghost use Rattle.vd_ring_laws.specs.PositionLaw.{PositionLaw};
+ghost use Rattle.vd_model.specs.Memory.{Memory};
+ghost use Rattle.vd_ring_laws.specs.TraceLaw.{TraceLaw};
 ghost use Rattle.vd_ring_laws.specs.OrderInstances.{OrderInstances};
 
 /// The block daemon has one request in hand at most on a queue, of a queue that was ready when it
@@ -22,6 +24,11 @@ pub fn chains_out()
 /// On each ring of a calm history requests alone were placed, and those that are out are apart.
 pub fn calm_rings()
     ensures { (x : Setting) (h : History) → CalmLaw x h }
+{}
+
+/// The trace of a chain that a driver wrote into its ring's table is that chain.
+pub fn written_chains()
+    ensures { (m : Memory) → TraceLaw m }
 {}
 
 /// The condition of the order law is met by a small history, in which a request is finished.
