@@ -1,26 +1,24 @@
 -- The trace of a chain that a driver wrote.
-use Rattle.std.proofs.Common.{◌≡◌, ℕ, zero, suc, ◌+◌, ◌*◌, ◌%◌, ◌/◌, ◌^◌, ◌<◌, ◌≤◌, Bool, true, false, refl, ap, subst, ◌∙◌, sym, arith, cond, Option, None, Some, Result, Ok, Err, List, [], ◌∷◌, ◌++◌, ◌==◌, ◌&&◌, ◌||◌, not, nat_le, nat_lt, unwrap_or, length, append_assoc, append-nil, if◌then◌else◌, true≢false, ◌⊎◌, inl, inr}
-use Rattle.std.specs.List.{list_any, sum_by}
+use Rattle.std.proofs.Common.{◌≡◌, ℕ, zero, suc, ◌+◌, ◌*◌, ◌%◌, ◌/◌, ◌^◌, ◌<◌, ◌≤◌, Bool, true, false, refl, ap, subst, ◌∙◌, sym, arith, cond, None, Some, Ok, List, [], ◌∷◌, ◌++◌, ◌==◌, ◌&&◌, ◌||◌, not, nat_le, unwrap_or, length, append_assoc, if◌then◌else◌, inl, inr}
+use Rattle.std.specs.List.{list_any}
 use Rattle.std.proofs.lemmas.Bool.{ne_eqb, lt-leb, le-ltb}
-use Rattle.std.proofs.lemmas.Bool.Decides.{nat_tests}
 use Rattle.std.proofs.lemmas.List.Folds.{list_any-append}
 use Rattle.std.proofs.lemmas.List.Sums.{sum_by-cons, sum_by-append}
 use Rattle.std.proofs.Math.Nat.{mod-eq_of_lt}
 use Rattle.byteorder.specs.Numbers.{little_number-reads_back}
 use Rattle.vd_num.specs.Field.{field_at}
 use Rattle.vd_model.specs.declared.parts.Part.{Part}
-use Rattle.vd_model.specs.declared.answer.ChainKind.{ChainKind}
 use Rattle.vd_model.specs.declared.answer.ChainKind.TheVariants.{Head, Loop, Next, Order, Shape, Nested, Long}
 use Rattle.vd_model.specs.declared.descriptor.Descriptor.{Descriptor}
 use Rattle.vd_model.specs.declared.descriptor.Position.{Position}
 use Rattle.vd_model.specs.declared.queue.RingPlace.{RingPlace}
 use Rattle.vd_model.specs.Memory.{Memory, read}
 use Rattle.vd_model.specs.Raw.{little_bytes}
-use Rattle.vd_model.specs.Trace.{Start, start_of, Ending, whole, missing, chain_of, descriptor_of, descriptor_from, descriptor_at, address_of, is_indirect, has_next, is_writable, part_of, is_misshapen, breaks_order, is_long, leaves_table, is_among, first_kind, with_read, parts_at, fault_of, fault_by, fault_of_read, fault_at, after_read, next_position, position_after, ending_by, ending_at, ending_within, ending_of, total_len}
+use Rattle.vd_model.specs.Trace.{Start, start_of, Ending, whole, missing, chain_of, descriptor_of, descriptor_from, descriptor_at, is_indirect, has_next, is_writable, part_of, is_misshapen, breaks_order, is_long, leaves_table, is_among, first_kind, with_read, parts_at, fault_of, fault_by, fault_of_read, fault_at, after_read, next_position, ending_by, ending_at, ending_within, total_len}
 use Rattle.vd_model.specs.RingTurns.{descriptor_bytes, flags_of, first_of, is_out_of_order}
 use Rattle.vd_laws.specs.Among.{Among}
 use Rattle.vd_ring_laws.specs.ChainLaw.{AreDistinct}
-use Rattle.vd_ring_laws.specs.TraceLaw.{IsLinked, IsWritten, TraceLaw}
+use Rattle.vd_ring_laws.specs.TraceLaw.{IsLinked, TraceLaw}
 use Rattle.vd_ring_laws.proofs.Distincts.{few_below}
 
 -- ---- a descriptor
@@ -219,7 +217,7 @@ module _ (m : Memory) (r : RingPlace) (head : ℕ) (negotiated : Bool) (inside :
   chain_from (suc n) before done (part ∷ next ∷ parts) (d ∷ e ∷ ds) le a =
       let here = at_index m r head negotiated inside small ends d in
       let fresh : (k : ℕ) → Among k (e ∷ ds) → is_among 0 k (here ∷ before) ≡ false = λ k i. (
-          ap (λ b. (true && b) || is_among 0 k before) (ne_eqb d k (λ f. a.distinct.0 (subst (λ j. Among j (e ∷ ds)) (sym f) i))) ∙ a.fresh k (inr i)) in
+      ap (λ b. (true && b) || is_among 0 k before) (ne_eqb d k (λ f. a.distinct.0 (subst (λ j. Among j (e ∷ ds)) (sym f) i))) ∙ a.fresh k (inr i)) in
       let is = first_is before done part (next ∷ parts) d (e ∷ ds) true e a (a.low e (inr (inl refl))) a.linked.0 (fresh e (inl refl)) in
       let rest : Rest (here ∷ before) (done ++ part ∷ []) (next ∷ parts) (e ∷ ds) = record {
         linked = a.linked.1;
