@@ -1,5 +1,5 @@
 -- The small history computes.
-use Rattle.std.proofs.Common.{◌≡◌, ℕ, zero, suc, true, false, cond, refl, ap, subst, sym, ◌∙◌, None, List, [], ◌∷◌, ◌++◌, Some, IsTrue, inl, inr, ◌&&◌, true≢false}
+use Rattle.std.proofs.Common.{◌<◌, ◌^◌, arith, ◌≡◌, ℕ, zero, suc, true, false, cond, refl, ap, subst, sym, ◌∙◌, None, List, [], ◌∷◌, ◌++◌, Some, IsTrue, inl, inr, ◌&&◌, true≢false}
 use Rattle.std.proofs.lemmas.Bool.{ne_eqb}
 use Rattle.std.specs.Int.Count.{ones}
 use Rattle.vd_num.specs.Number.{power_from, doubled_to}
@@ -17,8 +17,10 @@ use Rattle.vd_laws.specs.Small.{v, asked, dev}
 use Rattle.vd_laws.specs.MessageLaw.{heard}
 use Rattle.vd_laws.specs.Calm.{is_calm, describes, submits, has_reset, IsDescribed, IsCalm}
 use Rattle.vd_laws.specs.BlockLaw.{placed, pushed, head_in_hand}
+use Rattle.vd_model.specs.declared.parts.Part.{Part}
+use Rattle.vd_ring_laws.specs.TraceLaw.{IsWritten}
 use Rattle.vd_ring_laws.proofs.Spans.{Adds, lines_add, ring_inside}
-use Rattle.vd_ring_laws.specs.OrderInstances.{small, ring, number, addresses, ready, submit, fetch, execute, finish, run, fetched, OrderInstances}
+use Rattle.vd_ring_laws.specs.OrderInstances.{small, ring, number, addresses, ready, submit, fetch, execute, finish, run, fetched, parts, table, two_descriptors, OrderInstances}
 
 -- ---- each of a list's ends
 
@@ -151,5 +153,32 @@ calm_is = record {
   unreset = each (λ g. has_reset (heard small (g ++ start) v) ≡ false) span unreset_is;
 }
 
+low_two : (d : ℕ) → Among d (0 ∷ 1 ∷ []) → d < 2
+low_two d (inl e) = omega arith
+low_two d (inr (inl e)) = omega arith
+low_two d (inr (inr h)) = absurd h
+
+words_two : (part : Part) → Among part parts → (part.at < 2 ^ 64) × (part.len < 2 ^ 32)
+words_two part (inl e) = subst (λ p. (p.at < 2 ^ 64) × (p.len < 2 ^ 32)) (sym e) (omega arith, omega arith)
+words_two part (inr (inl e)) = subst (λ p. (p.at < 2 ^ 64) × (p.len < 2 ^ 32)) (sym e) (omega arith, omega arith)
+words_two part (inr (inr h)) = absurd h
+
+other_two : Among {X = ℕ} 0 (1 ∷ []) → ⊥
+other_two (inl e) = cc
+other_two (inr h) = absurd h
+
+written_is : IsWritten two_descriptors table parts (0 ∷ 1 ∷ [])
+unfolding read
+written_is = record {
+  linked = (refl, refl);
+  distinct = (other_two, ((λ h. absurd h), tt));
+  low = low_two;
+  size = omega arith;
+  ends = omega arith;
+  words = words_two;
+  ordered = refl;
+  short = omega arith;
+}
+
 pub order_met : OrderInstances
-order_met = record { calm = calm_is; placed_two = placed_is; pushed_one = pushed_is; next = next_is }
+order_met = record { calm = calm_is; placed_two = placed_is; pushed_one = pushed_is; next = next_is; written = written_is }

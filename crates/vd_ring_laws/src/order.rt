@@ -31,7 +31,8 @@ pub fn written_chains()
     ensures { (m : Memory) → TraceLaw m }
 {}
 
-/// The condition of the order law is met by a small history, in which a request is finished.
+/// The condition of the order law is met by a small history, in which a request is finished, and that
+/// of the law on traces by a small table.
 pub fn instances_of_order()
     ensures { OrderInstances }
 {}
