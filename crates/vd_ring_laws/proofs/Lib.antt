@@ -12,3 +12,4 @@ pub mod Outs
 pub mod Fairs
 pub mod Calms
 pub mod Traces
+pub mod Tables

@@ -3,3 +3,4 @@ pub mod PositionLaw
 pub mod ChainLaw
 pub mod CalmLaw
 pub mod TraceLaw
+pub mod TableLaw

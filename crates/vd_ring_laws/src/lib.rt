@@ -5,4 +5,6 @@
 
 mod order;
 
-pub use order::{calm_rings, chains_out, instances_of_order, positions, written_chains};
+pub use order::{
+    calm_rings, chains_out, instances_of_order, positions, written_chains, written_tables,
+};

@@ -6,6 +6,7 @@ ghost use Rattle.vd_ring_laws.specs.CalmLaw.{CalmLaw};
 ghost use Rattle.vd_ring_laws.specs.ChainLaw.{ChainLaw};
 ghost use Rattle.vd_ring_laws.specs.PositionLaw.{PositionLaw};
 ghost use Rattle.vd_model.specs.Memory.{Memory};
+ghost use Rattle.vd_ring_laws.specs.TableLaw.{TableLaw};
 ghost use Rattle.vd_ring_laws.specs.TraceLaw.{TraceLaw};
 ghost use Rattle.vd_ring_laws.specs.OrderInstances.{OrderInstances};
 
@@ -29,6 +30,11 @@ pub fn calm_rings()
 /// The trace of a chain that a driver wrote into its ring's table is that chain.
 pub fn written_chains()
     ensures { (m : Memory) → TraceLaw m }
+{}
+
+/// Right after a driver's puts of some descriptors past bounce memory, a ring's table has them.
+pub fn written_tables()
+    ensures { (x : Setting) (h : History) → TableLaw x h }
 {}
 
 /// The condition of the order law is met by a small history, in which a request is finished, and that
