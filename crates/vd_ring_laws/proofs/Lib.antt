@@ -1,0 +1,15 @@
+pub mod Spans
+pub mod Instances
+pub mod Drivers
+pub mod Mild
+pub mod Nodes
+pub mod Leaves
+pub mod Fair
+pub mod Takes
+pub mod Hands
+pub mod Distincts
+pub mod Outs
+pub mod Fairs
+pub mod Calms
+pub mod Traces
+pub mod Tables
