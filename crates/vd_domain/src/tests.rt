@@ -9,7 +9,7 @@ use crate::{Domain, NotLive, SyncError};
 use std::test::Fail;
 use vd_bounce::AreaError;
 use vd_model::{Dir, Mapping, Want};
-use vd_num::{Bus, Errno};
+use vd_num::{Bus, Errno, Range};
 use vd_pool::Pool;
 
 /// A want of buffer 0 from its start.
@@ -103,6 +103,44 @@ fn map_refusals(rt: HostRuntime) -> Result<(), Fail> {
     assert_eq!(rt; ended, Ok(()));
     assert_eq!(rt; again, Err(NotLive));
     assert_eq!(rt; out, [7]);
+    Ok(())
+}
+
+#[test]
+fn bus_and_coherent(rt: HostRuntime) -> Result<(), Fail> {
+    let mut pool = Pool::new(rt.alloc(), 1);
+    let mut domain = Domain::new(rt.alloc(), 16384, 32768, 1)?;
+    let everywhere = Range {
+        start: 0,
+        last: u64::MAX,
+    };
+    let made = domain.alloc_coherent(1);
+    let mut fresh = [7; 2];
+    let read = domain.load(&pool, 0x7fff000, &mut fresh);
+    let written = domain.ring_store(0x7fff001, b"z");
+    let mut shared = [7; 2];
+    let shown = domain.ring_load(0x7fff000, &mut shared);
+    let found = domain.lookup(everywhere);
+    let freed = domain.free_coherent(0);
+    let gone = domain.load(&pool, 0x7fff000, &mut shared);
+    let lost = domain.lookup(everywhere);
+    domain.discard(&mut pool);
+    assert_eq!(rt;
+        made,
+        Ok(Mapping {
+            number: 0,
+            iova: 0x7fff000
+        })
+    );
+    assert_eq!(rt; read, Ok(()));
+    assert_eq!(rt; fresh, [0, 0]);
+    assert_eq!(rt; written, Ok(()));
+    assert_eq!(rt; shown, Ok(()));
+    assert_eq!(rt; shared, [0, b'z']);
+    assert_eq!(rt; found.map(|region| region.start), Ok(0x7fff000));
+    assert_eq!(rt; freed, Ok(()));
+    assert_eq!(rt; gone, Err(Bus { at: 0x7fff000 }));
+    assert_eq!(rt; lost.map(|region| region.start), Err(Errno::Inval));
     Ok(())
 }
 
