@@ -24,7 +24,7 @@ use Rattle.vd_model.specs.DaemonTurns.{hand}
 use Rattle.vd_model.specs.RingTurns.{asked_by}
 use Rattle.vd_model.specs.Deeds.{seen}
 use Rattle.vd_model.specs.History.{History, deeds_of, disk_of, reply}
-use Rattle.vd_laws.specs.Runs.{acts_of}
+use Rattle.vd_laws.specs.Runs.{acts_of, IsAddressed, IsWhole}
 use Rattle.vd_laws.specs.Calm.{IsCalm}
 
 -- ---- the order in which requests finish
@@ -53,7 +53,7 @@ pushed x (_ ∷ acts) q = pushed x acts q
 
 -- on each ring of a calm history the heads that were pushed are the first ones of those that were placed, in their order
 abbrev pub OrderLaw : Setting → History → Type 0
-OrderLaw x h = (d : List ℕ) → IsCalm x h d → (q : ℕ) (ring : Ring) → ring_of (acts_of x h d) q ≡ Some ring
+OrderLaw x h = IsAddressed x → IsWhole x → (d : List ℕ) → IsCalm x h d → (q : ℕ) (ring : Ring) → ring_of (acts_of x h d) q ≡ Some ring
     → (rest : List ℕ) × (placed (acts_of x h d) q ≡ pushed x (acts_of x h d) q ++ rest)
 
 -- ---- what a request does
@@ -125,7 +125,7 @@ pub record Completed (x : Setting) (h : History) (d : List ℕ) (q : ℕ) (block
 
 -- in a calm history the first poll that reports a request's head tells what the disk did with that request
 abbrev pub BlockLaw : Setting → History → Type 0
-BlockLaw x h = (d : List ℕ) (calm : IsCalm x h d) (q : ℕ) (form : SubmitForm) (head : ℕ) (submit : Submitted x h d q form head)
+BlockLaw x h = IsAddressed x → IsWhole x → (d : List ℕ) (calm : IsCalm x h d) (q : ℕ) (form : SubmitForm) (head : ℕ) (submit : Submitted x h d q form head)
     → (inside : History) → submit.earlier ≡ inside ++ calm.start
     → (len : ℕ) (status : Item) (failed : Bool)
     → reply x h (Queue d (Poll q)) failed ≡ Done (Word tag.Head ∷ Number head ∷ Word tag.Len ∷ Number len ∷ Word tag.Status ∷ status ∷ [])
