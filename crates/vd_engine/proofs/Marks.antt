@@ -4,7 +4,7 @@ use Rattle.std.specs.Option.{option_or}
 use Rattle.std.proofs.lemmas.List.Folds.{find-append}
 use Rattle.std.proofs.lemmas.Bool.Decides.{nat_tests, leb_tells}
 use Rattle.vd_engine.specs.declared.waiting.Mark.{Mark}
-use Rattle.vd_engine.specs.Replies.{Replies, IsMarked, Added, ends_after, before}
+use Rattle.vd_engine.specs.Replies.{Replies, IsMarked, IsReplyAdded, ends_after, before}
 use Rattle.vd_engine.proofs.Names.{find_push_hit, find_push_miss}
 
 -- what is found stays found
@@ -36,5 +36,5 @@ module _ (old : Replies) (o : IsMarked old) (reply bytes : List ℕ) (marks : Li
         ap (find (ends_after n)) with ∙ find_push_miss (ends_after n) old.marks (record { end = stop; before = lines }) none ∙ o.beyond n (omega (arith, past, size, both));
   }
 
-  pub added_more : Added reply lines old (record { bytes = bytes; marks = marks })
+  pub added_more : IsReplyAdded reply lines old (record { bytes = bytes; marks = marks })
   added_more = record { bytes = is; kept = λ n early. ap before (in_old n early); added = λ n late below. ap before (in_new n late below) }

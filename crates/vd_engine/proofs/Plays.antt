@@ -7,7 +7,7 @@ use Rattle.std.proofs.lemmas.Bool.Decides.{nat_tests, eqb_tells}
 use Rattle.vd_model.specs.Setting.{Setting}
 use Rattle.vd_model.specs.History.{History}
 use Rattle.vd_model.specs.Served.{served_reading}
-use Rattle.vd_model.specs.Out.{is_good, good_lines, script_lines, stop_of, history_after, out_from, out, At_the_end, Not_in_grammar, Too_long}
+use Rattle.vd_model.specs.Out.{is_good, good_lines, script_lines, stop_of, history_after, output_from, script_output, At_the_end, Not_in_grammar, Too_long}
 use Rattle.vd_lines.specs.Ahead.{Ahead}
 use Rattle.vd_lines.specs.IsAt.{IsAt, IsRead, IsTaken, StopsLong}
 use Rattle.vd_lines.proofs.Places.{script_from}
@@ -167,15 +167,15 @@ module _ (x : Setting) (text : List ℕ) (waiting : Replies) (lines : ℕ) (left
   played_to BadLine other p = p
   played_to TooLong other p = p
 
-  whole : (done : List (List ℕ)) → good_lines text ≡ done → Appended old next (out_from [] (plain x) 1 [] done) → Appended old next (out (plain x) text [])
-  whole done are a = subst (λ l. Appended old next (out_from [] (plain x) 1 [] l)) (sym are) a
+  whole : (done : List (List ℕ)) → good_lines text ≡ done → Appended old next (output_from [] (plain x) 1 [] done) → Appended old next (script_output (plain x) text [])
+  whole done are a = subst (λ l. Appended old next (output_from [] (plain x) 1 [] l)) (sym are) a
 
   module _ (stop : Stop) (p : PlayedTo x text stop lines waiting left old now) where
     -- the replies that waited are written
-    written : Appended now next waiting.bytes → Appended old next (out_from [] (plain x) 1 [] p.done)
+    written : Appended now next waiting.bytes → Appended old next (output_from [] (plain x) 1 [] p.done)
     written a = all_written (plain x) p.done waiting old now p.waits text p.after p.first next a
 
-    front : Appended now next waiting.bytes → AppendedFront old next (out (plain x) text [])
+    front : Appended now next waiting.bytes → AppendedFront old next (script_output (plain x) text [])
     front a = as_front (plain x) p.done waiting old now p.waits text p.after p.first next a
 
     as_lines : Appended now next waiting.bytes → AppendedLines (plain x) text lines old next

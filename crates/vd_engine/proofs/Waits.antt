@@ -8,9 +8,9 @@ use Rattle.vd_model.specs.declared.step.Step.{Step}
 use Rattle.vd_model.specs.Setting.{Setting}
 use Rattle.vd_model.specs.History.{History}
 use Rattle.vd_model.specs.Served.{served_reading}
-use Rattle.vd_model.specs.Out.{good_lines, later_of, reply_to, history_after, out_from, out}
+use Rattle.vd_model.specs.Out.{good_lines, later_of, reply_to, history_after, output_from, script_output}
 use Rattle.vd_engine.specs.Written.{Appended, AppendedFront, replies, IsCut, AppendedCut, AppendedLines}
-use Rattle.vd_engine.specs.Replies.{Replies, Added, Cut, Flushed, line_at}
+use Rattle.vd_engine.specs.Replies.{Replies, IsReplyAdded, Cut, Flushed, line_at}
 use Rattle.vd_engine.specs.Played.{IsIn, Waits}
 
 -- ---- what is written
@@ -49,29 +49,29 @@ pub history_none : history_after [] 1 [] [] ≡ []
 unfolding history_after
 history_none = refl
 
-pub out_none : (x : Setting) → out_from [] x 1 [] [] ≡ []
-unfolding out_from
-out_none x = refl
+pub script_output_none : (x : Setting) → output_from [] x 1 [] [] ≡ []
+unfolding output_from
+script_output_none x = refl
 
 pub history_more : (done : List (List ℕ)) (line : List ℕ) (n : ℕ) (h : History) → history_after [] n h (done ++ line ∷ []) ≡ later_of [] 0 (served_reading line) (history_after [] n h done)
 unfolding history_after
 history_more [] line n h = later_any n (served_reading line) h
 history_more (d ∷ done) line n h = history_more done line (n + 1) (later_of [] n (served_reading d) h)
 
-pub out_more : (x : Setting) (done : List (List ℕ)) (line : List ℕ) (n : ℕ) (h : History)
-    → out_from [] x n h (done ++ line ∷ []) ≡ out_from [] x n h done ++ reply_to [] x 0 (history_after [] n h done) (served_reading line)
-unfolding out_from history_after
-out_more x [] line n h = append-nil (reply_to [] x n h (served_reading line)) ∙ reply_any x n (served_reading line) h
-out_more x (d ∷ done) line n h =
-    ap (λ t. reply_to [] x n h (served_reading d) ++ t) (out_more x done line (n + 1) (later_of [] n (served_reading d) h))
-    ∙ sym (append_assoc (reply_to [] x n h (served_reading d)) (out_from [] x (n + 1) (later_of [] n (served_reading d) h) done) (reply_to [] x 0 (history_after [] (n + 1) (later_of [] n (served_reading d) h) done) (served_reading line)))
+pub script_output_more : (x : Setting) (done : List (List ℕ)) (line : List ℕ) (n : ℕ) (h : History)
+    → output_from [] x n h (done ++ line ∷ []) ≡ output_from [] x n h done ++ reply_to [] x 0 (history_after [] n h done) (served_reading line)
+unfolding output_from history_after
+script_output_more x [] line n h = append-nil (reply_to [] x n h (served_reading line)) ∙ reply_any x n (served_reading line) h
+script_output_more x (d ∷ done) line n h =
+    ap (λ t. reply_to [] x n h (served_reading d) ++ t) (script_output_more x done line (n + 1) (later_of [] n (served_reading d) h))
+    ∙ sym (append_assoc (reply_to [] x n h (served_reading d)) (output_from [] x (n + 1) (later_of [] n (served_reading d) h) done) (reply_to [] x 0 (history_after [] (n + 1) (later_of [] n (served_reading d) h) done) (served_reading line)))
 
-pub out_split : (x : Setting) (done more : List (List ℕ)) (n : ℕ) (h : History) → (rest : List ℕ) × (out_from [] x n h (done ++ more) ≡ out_from [] x n h done ++ rest)
-unfolding out_from
-out_split x [] more n h = (out_from [] x n h more, refl)
-out_split x (d ∷ done) more n h =
-    let r = out_split x done more (n + 1) (later_of [] n (served_reading d) h) in
-    (r.0, ap (λ t. reply_to [] x n h (served_reading d) ++ t) r.1 ∙ sym (append_assoc (reply_to [] x n h (served_reading d)) (out_from [] x (n + 1) (later_of [] n (served_reading d) h) done) r.0))
+pub script_output_split : (x : Setting) (done more : List (List ℕ)) (n : ℕ) (h : History) → (rest : List ℕ) × (output_from [] x n h (done ++ more) ≡ output_from [] x n h done ++ rest)
+unfolding output_from
+script_output_split x [] more n h = (output_from [] x n h more, refl)
+script_output_split x (d ∷ done) more n h =
+    let r = script_output_split x done more (n + 1) (later_of [] n (served_reading d) h) in
+    (r.0, ap (λ t. reply_to [] x n h (served_reading d) ++ t) r.1 ∙ sym (append_assoc (reply_to [] x n h (served_reading d)) (output_from [] x (n + 1) (later_of [] n (served_reading d) h) done) r.0))
 
 -- ---- the line of each byte
 
@@ -81,17 +81,17 @@ module _ (x : Setting) (done : List (List ℕ)) (line : List ℕ) where
       let within = i.within in let size = length-append done (line ∷ []) in
       record {
         within = omega (arith, within, size);
-        begins = subst (λ l. length (out_from [] x 1 [] l) ≤ n) (sym (take-append-le k done (line ∷ []) (omega (arith, within)))) i.begins;
-        ends = subst (λ l. n < length (out_from [] x 1 [] l)) (sym (take-append-le (k + 1) done (line ∷ []) (omega (arith, within)))) i.ends;
+        begins = subst (λ l. length (output_from [] x 1 [] l) ≤ n) (sym (take-append-le k done (line ∷ []) (omega (arith, within)))) i.begins;
+        ends = subst (λ l. n < length (output_from [] x 1 [] l)) (sym (take-append-le (k + 1) done (line ∷ []) (omega (arith, within)))) i.ends;
       }
 
-  in_last : (n : ℕ) → length (out_from [] x 1 [] done) ≤ n → n < length (out_from [] x 1 [] (done ++ line ∷ [])) → IsIn x (done ++ line ∷ []) (length done) n
+  in_last : (n : ℕ) → length (output_from [] x 1 [] done) ≤ n → n < length (output_from [] x 1 [] (done ++ line ∷ [])) → IsIn x (done ++ line ∷ []) (length done) n
   in_last n low high =
       let size = length-append done (line ∷ []) in
       record {
         within = omega (arith, size);
-        begins = subst (λ l. length (out_from [] x 1 [] l) ≤ n) (sym (take-append_seam done (line ∷ []))) low;
-        ends = subst (λ l. n < length (out_from [] x 1 [] l)) (sym (take-append-add done (line ∷ []) 1)) high;
+        begins = subst (λ l. length (output_from [] x 1 [] l) ≤ n) (sym (take-append_seam done (line ∷ []))) low;
+        ends = subst (λ l. n < length (output_from [] x 1 [] l)) (sym (take-append-add done (line ∷ []) 1)) high;
       }
 
 -- nothing waits yet
@@ -99,18 +99,18 @@ pub waits_first : (x : Setting) (waiting : Replies) (held : Option (List ℕ)) �
 waits_first x waiting held none = record {
   front = [];
   written = appended_none held;
-  all = none ∙ sym (out_none x);
+  all = none ∙ sym (script_output_none x);
   line = λ n below. let size : length waiting.bytes ≡ 0 = ap length none in absurd (omega (arith, below, size));
 }
 
 module _ (x : Setting) (done : List (List ℕ)) (waiting : Replies) (old now : Option (List ℕ)) (w : Waits x done waiting old now) where
   -- the reply to a line more waits
-  module _ (line reply : List ℕ) (lines : ℕ) (later : Replies) (a : Added reply lines waiting later) (count : lines ≡ length done)
+  module _ (line reply : List ℕ) (lines : ℕ) (later : Replies) (a : IsReplyAdded reply lines waiting later) (count : lines ≡ length done)
       (is : reply ≡ reply_to [] x 0 (history_after [] 1 [] done) (served_reading line)) where
-    more_all : w.front ++ later.bytes ≡ out_from [] x 1 [] (done ++ line ∷ [])
+    more_all : w.front ++ later.bytes ≡ output_from [] x 1 [] (done ++ line ∷ [])
     more_all =
         ap (λ t. w.front ++ t) a.bytes ∙ sym (append_assoc w.front waiting.bytes reply) ∙ ap (λ t. t ++ reply) w.all
-        ∙ ap (λ t. out_from [] x 1 [] done ++ t) is ∙ sym (out_more x done line 1 [])
+        ∙ ap (λ t. output_from [] x 1 [] done ++ t) is ∙ sym (script_output_more x done line 1 [])
 
     more_line : (n : ℕ) → n < length later.bytes → IsIn x (done ++ line ∷ []) (line_at later n) (length w.front + n)
     more_line n below = elim (leb_tells (length waiting.bytes) n) [ inl past ↦ waits_last past.1 | inr early ↦ waits_still early.1 ] where
@@ -143,11 +143,11 @@ module _ (x : Setting) (done : List (List ℕ)) (waiting : Replies) (old now : O
 
   -- the run answers these lines first
   module _ (text : List ℕ) (after : List (List ℕ)) (first : good_lines text ≡ done ++ after) (next : Option (List ℕ)) where
-    same_replies : (k : ℕ) → k ≤ length done → replies x text k ≡ out_from [] x 1 [] (take k done)
-    same_replies k within = ap (λ l. out_from [] x 1 [] (take k l)) first ∙ ap (out_from [] x 1 []) (take-append-le k done after within)
+    same_replies : (k : ℕ) → k ≤ length done → replies x text k ≡ output_from [] x 1 [] (take k done)
+    same_replies k within = ap (λ l. output_from [] x 1 [] (take k l)) first ∙ ap (output_from [] x 1 []) (take-append-le k done after within)
 
-    begins : (more : List ℕ) × (out_from [] x 1 [] done ++ more ≡ out x text [])
-    begins = let split = out_split x done after 1 [] in (split.0, sym (ap (out_from [] x 1 []) first ∙ split.1))
+    begins : (more : List ℕ) × (output_from [] x 1 [] done ++ more ≡ script_output x text [])
+    begins = let split = script_output_split x done after 1 [] in (split.0, sym (ap (output_from [] x 1 []) first ∙ split.1))
 
     -- the sink fails at the replies that wait
     is_cut : (lines : ℕ) (c : Cut waiting lines now next) → IsCut x text lines (w.front ++ take c.size waiting.bytes)
@@ -173,14 +173,14 @@ module _ (x : Setting) (done : List (List ℕ)) (waiting : Replies) (old now : O
       by (Some base) a = (w.front ++ take c.size waiting.bytes, is_cut lines c, a)
 
     -- all of them are written
-    pub all_written : Appended now next waiting.bytes → Appended old next (out_from [] x 1 [] done)
+    pub all_written : Appended now next waiting.bytes → Appended old next (output_from [] x 1 [] done)
     all_written a = subst (Appended old next) w.all (appended_both old now next w.front waiting.bytes w.written a)
 
-    pub as_front : Appended now next waiting.bytes → AppendedFront old next (out x text [])
+    pub as_front : Appended now next waiting.bytes → AppendedFront old next (script_output x text [])
     as_front a = by old (all_written a) where
-      by : (from : Option (List ℕ)) → Appended from next (out_from [] x 1 [] done) → AppendedFront from next (out x text [])
+      by : (from : Option (List ℕ)) → Appended from next (output_from [] x 1 [] done) → AppendedFront from next (script_output x text [])
       by None b = tt
-      by (Some base) b = (out_from [] x 1 [] done, begins.0, begins.1, b)
+      by (Some base) b = (output_from [] x 1 [] done, begins.0, begins.1, b)
 
     pub lines_of : (lines : ℕ) → lines ≡ length done → Appended now next waiting.bytes → AppendedLines x text lines old next
     lines_of lines count a =
@@ -188,7 +188,7 @@ module _ (x : Setting) (done : List (List ℕ)) (waiting : Replies) (old now : O
         record {
           there = omega (arith, count, size, both);
           written = subst (Appended old next)
-              (sym (ap (λ k. replies x text k) count ∙ ap (λ l. out_from [] x 1 [] (take (length done) l)) first ∙ ap (out_from [] x 1 []) (take-append_seam done after)))
+              (sym (ap (λ k. replies x text k) count ∙ ap (λ l. output_from [] x 1 [] (take (length done) l)) first ∙ ap (output_from [] x 1 []) (take-append_seam done after)))
               (all_written a);
           front = as_front a;
         }
@@ -197,9 +197,9 @@ module _ (x : Setting) (done : List (List ℕ)) (waiting : Replies) (old now : O
 pub lines_none : (x : Setting) (text : List ℕ) (held : Option (List ℕ)) → AppendedLines x text 0 held held
 lines_none x text held = record {
   there = omega arith;
-  written = subst (Appended held held) (sym (out_none x)) (appended_none held);
+  written = subst (Appended held held) (sym (script_output_none x)) (appended_none held);
   front = by held;
 } where
-  by : (held : Option (List ℕ)) → AppendedFront held held (out x text [])
+  by : (held : Option (List ℕ)) → AppendedFront held held (script_output x text [])
   by None = tt
-  by (Some base) = ([], out x text [], refl, ap Some (sym (append-nil base)))
+  by (Some base) = ([], script_output x text [], refl, ap Some (sym (append-nil base)))

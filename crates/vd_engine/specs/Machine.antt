@@ -3,7 +3,7 @@ use Rattle.std.specs.Prelude.{ℕ, ◌<◌, ◌≤◌, ◌^◌, ◌≡◌, List,
 use Rattle.std.specs.Str.{bytes_eq}
 use Rattle.vd_model.specs.declared.answer.Answer.{Answer}
 use Rattle.vd_model.specs.Setting.{Setting}
-use Rattle.vd_model.specs.Deeds.{Deed, own, made_with, is_there, devices}
+use Rattle.vd_model.specs.Deeds.{Deed, acts_of_device, made_with, has_device, devices}
 use Rattle.vd_model.specs.ControlTurns.{Outcome}
 use Rattle.vd_model.specs.History.{History, deeds_of}
 use Rattle.vd_engine.specs.declared.engine.Named.{Named}
@@ -37,7 +37,7 @@ pub record FirstIs (name : List ℕ) (ds : List Named) (i : ℕ) : Type 0 where
 -- what is found under a name stands for that name's acts
 abbrev pub DeviceIs : Setting → List ℕ → List Deed → Option Named → Type 0
 DeviceIs x name done None = made_with name done ≡ None
-DeviceIs x name done (Some d) = (is_there name done ≡ true) × Stands x (own name done) d.device
+DeviceIs x name done (Some d) = (has_device name done ≡ true) × Stands x (acts_of_device name done) d.device
 
 pub record AllStand (x : Setting) (done : List Deed) (ds : List Named) : Type 0 where
   pub each : (name : List ℕ) → DeviceIs x name done (find (is_named name) ds)

@@ -5,7 +5,7 @@ use Rattle.vd_model.specs.declared.step.Step.{Step}
 use Rattle.vd_model.specs.Setting.{Setting}
 use Rattle.vd_model.specs.History.{History}
 use Rattle.vd_model.specs.Served.{served_reading}
-use Rattle.vd_model.specs.Out.{is_good, good_lines, stop_of, At_the_end, Not_in_grammar, Too_long, later_of, reply_to, out_from}
+use Rattle.vd_model.specs.Out.{is_good, good_lines, stop_of, At_the_end, Not_in_grammar, Too_long, later_of, reply_to, output_from}
 use Rattle.vd_lines.specs.IsAt.{IsTaken}
 use Rattle.vd_engine.specs.declared.script.Line.{Line}
 use Rattle.vd_engine.specs.declared.script.Line.TheVariants.{Bad, Nothing, Asks}
@@ -13,7 +13,7 @@ use Rattle.vd_engine.specs.declared.script.Stop.{Stop}
 use Rattle.vd_engine.specs.declared.script.Stop.TheVariants.{End, SourceFailed, SinkFailed, Memory, BadLine, TooLong}
 use Rattle.vd_engine.specs.Machine.{Machine, StandsFor}
 use Rattle.vd_engine.specs.Stands.{plain}
-use Rattle.vd_engine.specs.Replies.{Replies, Added, line_at}
+use Rattle.vd_engine.specs.Replies.{Replies, IsReplyAdded, line_at}
 use Rattle.vd_engine.specs.Written.{Appended, AppendedCut}
 
 -- what a line was read as
@@ -32,7 +32,7 @@ pub record Replied (x : Setting) (h : History) (line old new : List ℕ) (engine
 pub record Answered (x : Setting) (h : History) (line : List ℕ) (lines : ℕ) (old new : Replies) (engine : Machine) : Type 0 where
   pub reply : List ℕ
   pub replied : Replied x h line [] reply engine
-  pub waits : Added reply lines old new
+  pub waits : IsReplyAdded reply lines old new
 
 -- why a line isn't answered
 abbrev pub Stopped : List ℕ → Stop → Type 0
@@ -49,14 +49,14 @@ is_own _ = true
 -- the byte at place n of the replies to these lines is of the reply to the one after the first k
 pub record IsIn (x : Setting) (done : List (List ℕ)) (k n : ℕ) : Type 0 where
   pub within : k < length done
-  pub begins : length (out_from [] x 1 [] (take k done)) ≤ n
-  pub ends : n < length (out_from [] x 1 [] (take (k + 1) done))
+  pub begins : length (output_from [] x 1 [] (take k done)) ≤ n
+  pub ends : n < length (output_from [] x 1 [] (take (k + 1) done))
 
 -- of the replies to these lines a front was written, and the rest waits
 pub record Waits (x : Setting) (done : List (List ℕ)) (waiting : Replies) (old new : Option (List ℕ)) : Type 0 where
   pub front : List ℕ
   pub written : Appended old new front
-  pub all : front ++ waiting.bytes ≡ out_from [] x 1 [] done
+  pub all : front ++ waiting.bytes ≡ output_from [] x 1 [] done
   pub line : (n : ℕ) → n < length waiting.bytes → IsIn x done (line_at waiting n) (length front + n)
 
 -- where a run that stopped so stopped in the text

@@ -26,7 +26,7 @@ pub record IsMarked (w : Replies) : Type 0 where
   pub beyond : (n : ℕ) → length w.bytes ≤ n → find (ends_after n) w.marks ≡ None
 
 -- new is old with the reply to a line before which so many others stand
-pub record Added (reply : List ℕ) (lines : ℕ) (old new : Replies) : Type 0 where
+pub record IsReplyAdded (reply : List ℕ) (lines : ℕ) (old new : Replies) : Type 0 where
   pub bytes : new.bytes ≡ old.bytes ++ reply
   pub kept : (n : ℕ) → n < length old.bytes → line_at new n ≡ line_at old n
   pub added : (n : ℕ) → length old.bytes ≤ n → n < length new.bytes → line_at new n ≡ lines

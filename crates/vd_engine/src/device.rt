@@ -23,7 +23,7 @@ use crate::streaming::{Mapped, gives};
 use std::alloc::{AllocError, Global};
 use std::marker::Model;
 use vd_model::{Answer, AreaStep, Bytes, DevStep, DriverStep, Errno, Item, Items, Tag, Want};
-use vd_num::{PAGE_SIZE, pages};
+use vd_num::{SLOT_SIZE, pages};
 
 /// How many bytes the buffers of a device may have together.
 const BUFFER_LIMIT: u64 = 67108864;
@@ -132,7 +132,7 @@ fn give_back(buffers: &mut Vec<Buffer>, bounce: &Bounce, m: &Mapped)
 {
     let want = m.want();
     if gives(want.dir) {
-        let text = bounce.bytes(PAGE_SIZE * m.slot(), want.len);
+        let text = bounce.bytes(SLOT_SIZE * m.slot(), want.len);
         buffers[want.buffer as usize].write(want.offset as usize, text);
     }
 }
@@ -191,7 +191,7 @@ impl Device {
             None => return Ok(Answer::Err(Errno::Nospc)),
         };
         let mapping = Mapped::new(self.made, slot, want);
-        let answer = mapped_answer(self.alloc, self.made, PAGE_SIZE * slot)?;
+        let answer = mapped_answer(self.alloc, self.made, SLOT_SIZE * slot)?;
         self.live.reserve(1)?;
         self.bounce.show(&mapping, text)?;
         self.live.push(mapping)?;
@@ -249,7 +249,7 @@ impl Device {
     }
 
     /// Answers a step of the daemon on memory.
-    fn area(&mut self, step: &AreaStep) -> Result<Answer, AllocError>
+    fn area(&mut self, step: &AreaStep<'_>) -> Result<Answer, AllocError>
         requires { area_served step.now ≡ true }
         ensures ok { (x : Setting) (done : List Act) → Stands x done self.old →
             IfOk result (λ a. Takes x (lift Node (area_turn (plain x) done step.now)) done a self.new) }
@@ -265,7 +265,7 @@ impl Device {
     }
 
     /// Answers a step of the driver.
-    fn driver(&mut self, step: &DriverStep) -> Result<Answer, AllocError>
+    fn driver(&mut self, step: &DriverStep<'_>) -> Result<Answer, AllocError>
         requires made { self.old.made < 2 ^ 62 }
         requires served { driver_served step.now ≡ true }
         ensures ok { (x : Setting) (done : List Act) → Stands x done self.old →
@@ -298,7 +298,7 @@ impl Device {
     }
 
     /// Answers a step.
-    pub fn step(&mut self, step: &DevStep) -> Result<Answer, AllocError>
+    pub fn step(&mut self, step: &DevStep<'_>) -> Result<Answer, AllocError>
         requires made { self.old.made < 2 ^ 62 }
         requires served { device_served step.now ≡ true }
         ensures ok { (x : Setting) (made : Creation) (seen : Seen) → Stands x seen.acts self.old →

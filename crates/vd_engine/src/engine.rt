@@ -2,9 +2,9 @@
 
 ghost use Rattle.std.specs.Prelude.{◌≡◌, ◌<◌, ◌≤◌, ◌^◌, ◌+◌, ℕ, List, IfOk, IsOk, OnErr, OnOk, All, MatchOption, true, false, ◌∷◌, [], length};
 ghost use Rattle.vd_model.specs.Setting.{Setting};
-ghost use Rattle.vd_model.specs.Deeds.{Deed, seen};
+ghost use Rattle.vd_model.specs.Deeds.{Deed, device_view};
 ghost use Rattle.vd_model.specs.ControlTurns.{dev_outcome};
-ghost use Rattle.vd_model.specs.History.{History, device_turn, outcome, on, reply};
+ghost use Rattle.vd_model.specs.History.{History, device_turn, outcome, device_outcome, reply};
 ghost use Rattle.vd_model.specs.Served.{served, device_served};
 ghost use Rattle.vd_engine.specs.Frugal.{takes_none, step_takes_none};
 ghost use Rattle.vd_engine.specs.Stands.{plain};
@@ -102,11 +102,15 @@ fn dev(
 }
 
 /// Answers a step on the device of this name.
-fn on_device(devices: &mut Vec<Named>, name: &[u8], step: &DevStep) -> Result<Answer, AllocError>
+fn on_device(
+    devices: &mut Vec<Named>,
+    name: &[u8],
+    step: &DevStep<'_>,
+) -> Result<Answer, AllocError>
     requires made { All (λ d. d.device.made < 2 ^ 62) devices.old.items }
     requires served { device_served step.now ≡ true }
     ensures ok { (x : Setting) (done : List Deed) → AllStand x done devices.old.items →
-        IfOk result (λ a. Results x (on name.now (device_turn (plain x) (seen (plain x) name.now done) step.now)) done a devices.new.items) }
+        IfOk result (λ a. Results x (device_outcome name.now (device_turn (plain x) (device_view (plain x) name.now done) step.now)) done a devices.new.items) }
     ensures free { takes_none step.now ≡ true → IsOk result }
     ensures err { OnErr result (devices.new.items ≡ devices.old.items) }
     ensures made { (n : ℕ) → All (λ d. d.device.made ≤ n) devices.old.items → All (λ d. d.device.made ≤ n + 1) devices.new.items }
@@ -122,7 +126,7 @@ fn answer(
     alloc: Global,
     pages: u64,
     devices: &mut Vec<Named>,
-    step: &Step,
+    step: &Step<'_>,
 ) -> Result<Answer, AllocError>
     requires pages { pages ≤ 2 ^ 16 }
     requires made { All (λ d. d.device.made < 2 ^ 62) devices.old.items }
@@ -159,13 +163,14 @@ impl Engine {
 
     /// Answers a step as the history machine does, and stands for the history with that step then.
     /// After want of memory it stands as before; a store and an unmap take no memory.
-    pub fn step<I: Image>(&mut self, _disk: &mut I, step: &Step) -> Result<Stepped, AllocError>
+    pub fn step<I: Image>(&mut self, _disk: &mut I, step: &Step<'_>) -> Result<Stepped, AllocError>
         requires room { self.old.asked < 2 ^ 40 }
         requires served { served step.now ≡ true }
         ensures ok { (x : Setting) (h : History) → StandsFor x h self.old → IfOk result (λ s.
             (s.answer ≡ reply (plain x) h step.now s.disk_failed)
             × StandsFor x (record { step = step.now; failed = s.disk_failed } ∷ h) self.new) }
         ensures no_disk { IfOk result (λ s. s.disk_failed ≡ false) }
+        ensures image { _disk.new ≡ _disk.old }
         ensures free { step_takes_none step.now ≡ true → IsOk result }
         ensures asked { OnOk result (self.new.asked ≡ self.old.asked + 1) }
         ensures err { OnErr result (self.new ≡ self.old) }

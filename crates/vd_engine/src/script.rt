@@ -1,6 +1,6 @@
 //! A whole script, from the bytes that come in to the bytes that go out.
 
-ghost use Rattle.std.specs.Prelude.{◌≡◌, ◌<◌, ◌≤◌, ◌^◌, ◌+◌, ◌++◌, ℕ, List, [], IfOk, OnErr, OnOk, IsErr, IfErr, MatchResult, Some, length, true};
+ghost use Rattle.std.specs.Prelude.{◌≡◌, ◌<◌, ◌≤◌, ◌^◌, ◌+◌, ◌++◌, ℕ, List, [], IfOk, OnErr, OnOk, IsErr, IfErr, MatchResult, Some, length, true, false};
 ghost use Rattle.vd_io.specs.Told.{Rose};
 ghost use Rattle.vd_model.specs.Setting.{Setting};
 ghost use Rattle.vd_model.specs.History.{History};
@@ -8,7 +8,7 @@ ghost use Rattle.vd_model.specs.Served.{served_reading};
 ghost use Rattle.vd_model.specs.Replies.{reply_line};
 ghost use Rattle.vd_engine.specs.Machine.{StandsFor};
 ghost use Rattle.vd_engine.specs.Stands.{plain};
-ghost use Rattle.vd_engine.specs.Written.{EndsAt, stop_of_status, is_status};
+ghost use Rattle.vd_engine.specs.Written.{EndsAt, stop_of_status, is_status, is_line_status};
 ghost use Rattle.vd_engine.specs.Replies.{Cut, Flushed};
 ghost use Rattle.vd_engine.specs.Played.{Says, Stopped, Replied, Answered, Played, status_of, line_of, is_own};
 
@@ -25,17 +25,24 @@ const FLUSH: usize = 65536;
 
 /// What a line of a script asks.
 #[derive(Drop)]
-pub enum Line {
+pub enum Line<'a> {
     /// It isn't in the grammar, or its form isn't served.
     Bad,
     /// It is empty or a comment.
     Nothing,
-    Asks(Step),
+    Asks(Step<'a>),
 }
 
 /// How lines are read and replies written.
 pub trait Language {
-    fn read_line(&self, alloc: Global, line: &[u8]) -> Result<Line, AllocError>
+    /// Reads a line. What it asks borrows the line, and `scratch`, which holds the bytes that the
+    /// line spells.
+    fn read_line<'a>(
+        &self,
+        alloc: Global,
+        scratch: &'a mut Vec<u8>,
+        line: &'a [u8],
+    ) -> Result<Line<'a>, AllocError>
         ensures { IfOk result (λ l. Says l (served_reading line.now)) };
 
     /// Appends the reply line.
@@ -60,6 +67,7 @@ fn answer_line<L: Language, I: Image>(
     language: &L,
     engine: &mut Engine,
     disk: &mut I,
+    scratch: &mut Vec<u8>,
     line: &[u8],
     reply: &mut Bytes,
 ) -> Result<(), Stop>
@@ -67,8 +75,9 @@ fn answer_line<L: Language, I: Image>(
     ensures ok { (x : Setting) (h : History) → StandsFor x h engine.old → MatchResult result (λ _. Replied x h line.now reply.old reply.new engine.new) (Stopped line.now) }
     ensures asked { engine.new.asked ≤ engine.old.asked + 1 }
     ensures own { IfErr result (λ stop. is_own stop ≡ true) }
+    ensures image { disk.new ≡ disk.old }
 {
-    let step = match language.read_line(alloc, line) {
+    let step = match language.read_line(alloc, scratch, line) {
         Err(AllocError) => return Err(Stop::Memory),
         Ok(Line::Bad) => return Err(Stop::BadLine),
         Ok(Line::Nothing) => return Ok(()),
@@ -90,6 +99,7 @@ fn answer_onto<L: Language, I: Image>(
     language: &L,
     engine: &mut Engine,
     disk: &mut I,
+    scratch: &mut Vec<u8>,
     line: &[u8],
     lines: u64,
     waiting: &mut Waiting,
@@ -100,9 +110,10 @@ fn answer_onto<L: Language, I: Image>(
     ensures asked { engine.new.asked ≤ engine.old.asked + 1 }
     ensures kept { OnErr result (waiting.new ≡ waiting.old) }
     ensures own { IfErr result (λ stop. is_own stop ≡ true) }
+    ensures image { disk.new ≡ disk.old }
 {
     reply.clear();
-    match answer_line(alloc, language, engine, disk, line, reply) {
+    match answer_line(alloc, language, engine, disk, scratch, line, reply) {
         Err(stop) => return Err(stop),
         Ok(()) => {}
     }
@@ -154,8 +165,10 @@ fn play<L: Language, S: Source, K: Sink, I: Image>(
     ensures source_later { S.faults source.old ≤ S.faults source.new }
     ensures sink_later { K.faults sink.old ≤ K.faults sink.new }
     ensures few { is_own result.stop ≡ true → result.lines < 2 ^ 62 }
+    ensures image { disk.new ≡ disk.old }
 {
     let mut reader = LineReader::new(alloc);
+    let mut scratch = Vec::new(alloc);
     let mut reply = Bytes::new(alloc);
     let mut lines = 0;
     loop {
@@ -164,7 +177,15 @@ fn play<L: Language, S: Source, K: Sink, I: Image>(
             Ok(Next::Last) => {
                 let line = reader.line();
                 return match answer_onto(
-                    alloc, language, engine, disk, line, lines, waiting, &mut reply,
+                    alloc,
+                    language,
+                    engine,
+                    disk,
+                    &mut scratch,
+                    line,
+                    lines,
+                    waiting,
+                    &mut reply,
                 ) {
                     Err(stop) => Progress { stop, lines },
                     Ok(()) => Progress {
@@ -195,6 +216,7 @@ fn play<L: Language, S: Source, K: Sink, I: Image>(
             language,
             engine,
             disk,
+            &mut scratch,
             reader.line(),
             lines,
             waiting,
@@ -247,6 +269,7 @@ fn ended(alloc: Global, stop: Stop, lines: u64) -> Exit
     ensures stop { stop_of_status result.status ≡ stop }
     ensures status { result.status ≡ status_of stop }
     ensures line { result.line ≡ line_of stop lines }
+    ensures no_line { is_line_status result.status ≡ false → result.line ≡ 0 }
     ensures lines_done { result.lines_done ≡ lines }
     ensures disk_failures { result.disk_failures ≡ [] }
 {
@@ -276,6 +299,8 @@ pub fn run<L: Language, S: Source, K: Sink, I: Image>(
     ensures source_failed { result.status ≡ 3 → Rose (S.faults source.old) (S.faults source.new) }
     ensures sink_failed { result.status ≡ 4 → Rose (K.faults sink.old) (K.faults sink.new) }
     ensures known { is_status result.status ≡ true }
+    ensures no_line { is_line_status result.status ≡ false → result.line ≡ 0 }
+    ensures image { disk.new ≡ disk.old }
     ensures disk_failures { result.disk_failures ≡ [] }
 {
     let mut engine = match Engine::new(alloc, options) {

@@ -3,7 +3,7 @@
 ghost use Rattle.std.specs.Prelude.{◌≡◌, ◌<◌, ◌≤◌, ◌++◌, ℕ, List, [], Option, OnOk, OnErr, IsErr, IfErr, length, take, find};
 ghost use Rattle.vd_io.specs.Told.{Rose};
 ghost use Rattle.vd_engine.specs.Written.{Appended};
-ghost use Rattle.vd_engine.specs.Replies.{Added, Cut, ends_after, line_at};
+ghost use Rattle.vd_engine.specs.Replies.{IsReplyAdded, Cut, ends_after, line_at};
 
 use std::alloc::{AllocError, Global};
 use std::marker::Model;
@@ -78,7 +78,7 @@ impl Waiting {
 
     /// Adds the reply to a line before which so many others stand.
     pub fn add(&mut self, reply: &[u8], before: u64) -> Result<(), AllocError>
-        ensures ok { OnOk result (Added reply.now before self.old self.new) }
+        ensures ok { OnOk result (IsReplyAdded reply.now before self.old self.new) }
         ensures err { OnErr result (self.new ≡ self.old) }
     {
         if reply.is_empty() {

@@ -1,14 +1,15 @@
 -- A reader's place in the text, from one line to the next.
-use Rattle.std.proofs.Common.{◌≡◌, ℕ, ◌+◌, ◌-◌, ◌<◌, ◌≤◌, Bool, true, false, refl, ap, subst, ◌∙◌, sym, arith, ◌⊎◌, inl, inr, Option, Some, Err, nat_le, List, [], ◌∷◌, ◌++◌, length, take, length-append, append_assoc, append-nil}
-use Rattle.std.proofs.Math.Seq.{take-append-add}
+use Rattle.std.proofs.Common.{◌≡◌, ℕ, ◌+◌, ◌-◌, ◌<◌, ◌≤◌, Bool, true, false, refl, ap, subst, ◌∙◌, sym, arith, ◌⊎◌, inl, inr, Option, Some, Err, nat_le, List, [], ◌∷◌, ◌++◌, length, take, length-append, append_assoc, append-nil, drop, ◌&&◌}
+use Rattle.std.proofs.Math.Seq.{take-append-add, drop-append_seam}
+use Rattle.std.specs.List.{list_all}
 use Rattle.std.proofs.lemmas.Bool.Decides.{nat_tests}
 use Rattle.vd_model.specs.Reading.{lines}
-use Rattle.vd_model.specs.Out.{ended, script_lines}
+use Rattle.vd_model.specs.Out.{ended_lines, script_lines}
 use Rattle.vd_lines.specs.declared.reader.ReadFault.{ReadFault}
 use Rattle.vd_lines.specs.declared.reader.ReadFault.TheVariants.{Failed, TooLong, Memory}
 use Rattle.vd_lines.specs.Ahead.{Ahead, IsOneLine, IsFilledBy, IsFilled, IsPast}
-use Rattle.vd_lines.specs.IsAt.{Cuts, IsAt, Leads, IsRead, IsTaken, StopsLong, IsNext}
-use Rattle.vd_lines.proofs.Texts.{lines_none, lines_last, ended_last, IsLong, lines_long, ended_long, cuts_none, cuts_more}
+use Rattle.vd_lines.specs.IsAt.{Cuts, IsAt, Leads, IsRead, IsTaken, StopsLong, IsNext, is_short}
+use Rattle.vd_lines.proofs.Texts.{lines_none, lines_last, ended_lines_last, IsLong, lines_long, ended_lines_long, cuts_none, cuts_more}
 use Rattle.vd_lines.proofs.Stops.{script_whole, script_cut, good_are, stop_long, long_bad, all_good, stop_limit}
 
 -- a length is within the limit or past it
@@ -30,8 +31,8 @@ script_from text seen more done c is fits = by (split (length text)) where
   by : (length text ≤ 67108864) ⊎ (67108864 < length text) → (after : List (List ℕ)) × (script_lines text ≡ done ++ after)
   by (inl small) = (lines more, script_whole text small ∙ ap lines is ∙ c.all more)
   by (inr large) = (
-    ended (take (67108864 - length seen) more),
-    script_cut text large ∙ ap (λ t. ended (take 67108864 t)) is ∙ ap ended (take_past seen more 67108864 fits) ∙ c.whole (take (67108864 - length seen) more),
+    ended_lines (take (67108864 - length seen) more),
+    script_cut text large ∙ ap (λ t. ended_lines (take 67108864 t)) is ∙ ap ended_lines (take_past seen more 67108864 fits) ∙ c.whole (take (67108864 - length seen) more),
   )
 
 pub at_first : (text : List ℕ) (r : Ahead) (left : Option (List ℕ)) → r ≡ record { line = []; pending = []; taken = 0 } → left ≡ Some text → IsAt text [] r left
@@ -120,13 +121,22 @@ module _ (text : List ℕ) (done : List (List ℕ)) (r : Ahead) (told left : Opt
       record { lines_are = script_whole text (text_short empty) ∙ all; all = all; short = text_short empty; none_left = end }
 
   -- a fault, after which an LF ends none of what was read ahead
-  pub at_failed : left ≡ told → IsOneLine r.pending → IsTaken text done left
-  at_failed same one = record {
+  short_line : (bytes : List ℕ) → IsOneLine bytes → length bytes ≤ 65536 → list_all is_short (lines bytes) ≡ true
+  short_line [] one few = ap (list_all is_short) lines_none
+  short_line (b ∷ bytes) one few =
+      let fits : nat_le (length (b ∷ bytes)) 65536 ≡ true = grind (arith, nat_tests, few) in
+      ap (list_all is_short) (lines_last (b ∷ bytes) (omega arith) one) ∙ ap (λ t. t && true) fits
+
+  pub at_failed : left ≡ told → IsOneLine r.pending → length r.pending ≤ 65536 → IsTaken text done left
+  at_failed same one few = record {
     taken = at.seen ++ r.pending;
     rest = at.rest;
     bytes = append_assoc at.seen r.pending at.rest ∙ sym at.bytes;
     left_is = same ∙ at.left_is;
-    ended_are = at.cuts.whole r.pending ∙ ap (λ l. done ++ l) (ended_last r.pending one) ∙ append-nil done;
+    ended_are = at.cuts.whole r.pending ∙ ap (λ l. done ++ l) (ended_lines_last r.pending one) ∙ append-nil done;
+    within = (let size = length-append at.seen r.pending in let taken = at.taken in let room = at.room in omega (arith, size, taken, room));
+    open_line = ap (λ l. list_all is_short (drop (length done) l)) (at.cuts.all r.pending) ∙ ap (list_all is_short) (drop-append_seam done (lines r.pending))
+        ∙ short_line r.pending one few;
   }
 
   -- what is read ahead is too long for a line
@@ -140,17 +150,17 @@ module _ (text : List ℕ) (done : List (List ℕ)) (r : Ahead) (told left : Opt
     no_line : 67108864 < length text → script_lines text ≡ done → StopsLong text done
     no_line past are = λ good. (stop_limit text done are good past, all_good text done are good)
 
-    cut_is : 67108864 < length text → script_lines text ≡ done ++ ended (r.pending ++ take (67108864 - length at.seen - length r.pending) at.rest)
+    cut_is : 67108864 < length text → script_lines text ≡ done ++ ended_lines (r.pending ++ take (67108864 - length at.seen - length r.pending) at.rest)
     cut_is past =
         let taken = at.taken in let room = at.room in
         let first : length at.seen ≤ 67108864 = omega (arith, taken, room) in
         let then : length r.pending ≤ 67108864 - length at.seen = omega (arith, taken, room) in
-        script_cut text past ∙ ap (λ t. ended (take 67108864 t)) at.bytes ∙ ap ended (take_past at.seen (r.pending ++ at.rest) 67108864 first)
-        ∙ ap (λ t. ended (at.seen ++ t)) (take_past r.pending at.rest (67108864 - length at.seen) then) ∙ at.cuts.whole (r.pending ++ take (67108864 - length at.seen - length r.pending) at.rest)
+        script_cut text past ∙ ap (λ t. ended_lines (take 67108864 t)) at.bytes ∙ ap ended_lines (take_past at.seen (r.pending ++ at.rest) 67108864 first)
+        ∙ ap (λ t. ended_lines (at.seen ++ t)) (take_past r.pending at.rest (67108864 - length at.seen) then) ∙ at.cuts.whole (r.pending ++ take (67108864 - length at.seen - length r.pending) at.rest)
 
     by : (length text ≤ 67108864) ⊎ (67108864 < length text) → StopsLong text done
     by (inl small) = some_line (lines (r.pending ++ at.rest)) (lines_long r.pending at.rest (omega arith) one) (script_whole text small ∙ ap lines at.bytes ∙ at.cuts.all (r.pending ++ at.rest))
-    by (inr large) = elim (ended_long r.pending (take (67108864 - length at.seen - length r.pending) at.rest) one) [
+    by (inr large) = elim (ended_lines_long r.pending (take (67108864 - length at.seen - length r.pending) at.rest) one) [
       | inl none ↦ no_line large (cut_is large ∙ ap (λ o. done ++ o) none ∙ append-nil done)
       | inr l ↦ some_line _ l (cut_is large)
     ]
@@ -167,13 +177,13 @@ module _ (text : List ℕ) (done : List (List ℕ)) (r : Ahead) (told left : Opt
       let fits : length (at.seen ++ r.pending) ≤ 67108864 = omega (arith, front, taken, full) in
       let none : 67108864 - length (at.seen ++ r.pending) ≡ 0 = omega (arith, front, taken, full) in
       let are : script_lines text ≡ done =
-      script_cut text large ∙ ap (λ t. ended (take 67108864 t)) whole ∙ ap ended (take_past (at.seen ++ r.pending) at.rest 67108864 fits)
-      ∙ ap (λ n. ended ((at.seen ++ r.pending) ++ take n at.rest)) none ∙ ap ended (append-nil (at.seen ++ r.pending))
-      ∙ at.cuts.whole r.pending ∙ ap (λ l. done ++ l) (ended_last r.pending one) ∙ append-nil done in
+      script_cut text large ∙ ap (λ t. ended_lines (take 67108864 t)) whole ∙ ap ended_lines (take_past (at.seen ++ r.pending) at.rest 67108864 fits)
+      ∙ ap (λ n. ended_lines ((at.seen ++ r.pending) ++ take n at.rest)) none ∙ ap ended_lines (append-nil (at.seen ++ r.pending))
+      ∙ at.cuts.whole r.pending ∙ ap (λ l. done ++ l) (ended_lines_last r.pending one) ∙ append-nil done in
       λ good. (stop_limit text done are good large, all_good text done are good)
 
   -- a fault
-  pub at_fault : (new : Ahead) (fault : ReadFault) → IsOneLine r.pending → IsFilled r new told left (Err fault) → IsNext text done new left (Err fault)
-  at_fault new Failed one f = at_failed f.0 one
-  at_fault new TooLong one f = at_limit one f.0 f.1
-  at_fault new Memory one f = tt
+  pub at_fault : (new : Ahead) (fault : ReadFault) → IsOneLine r.pending → length r.pending ≤ 65536 → IsFilled r new told left (Err fault) → IsNext text done new left (Err fault)
+  at_fault new Failed one few f = at_failed f.0 one few
+  at_fault new TooLong one few f = at_limit one f.0 f.1
+  at_fault new Memory one few f = tt

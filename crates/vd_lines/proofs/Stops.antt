@@ -4,15 +4,15 @@ use Rattle.std.specs.List.{list_all, take_while}
 use Rattle.std.proofs.lemmas.List.Sums.{take_while-cons}
 use Rattle.std.proofs.lemmas.Bool.Decides.{nat_tests}
 use Rattle.vd_model.specs.Reading.{lines}
-use Rattle.vd_model.specs.Out.{At_the_end, Not_in_grammar, Too_long, ended, script_lines, is_good, good_lines, stop_at, stop_of}
+use Rattle.vd_model.specs.Out.{At_the_end, Not_in_grammar, Too_long, ended_lines, script_lines, is_good, good_lines, stop_at, stop_of}
 
 -- ---- the lines of a script
 
 pub script_whole : (text : List ℕ) → length text ≤ 67108864 → script_lines text ≡ lines text
-script_whole text fits = let small : nat_le (length text) 67108864 ≡ true = grind (arith, nat_tests) in ap (λ b. cond b (lines text) (ended (take 67108864 text))) small
+script_whole text fits = let small : nat_le (length text) 67108864 ≡ true = grind (arith, nat_tests) in ap (λ b. cond b (lines text) (ended_lines (take 67108864 text))) small
 
-pub script_cut : (text : List ℕ) → 67108864 < length text → script_lines text ≡ ended (take 67108864 text)
-script_cut text past = let large : nat_le (length text) 67108864 ≡ false = grind (arith, nat_tests) in ap (λ b. cond b (lines text) (ended (take 67108864 text))) large
+pub script_cut : (text : List ℕ) → 67108864 < length text → script_lines text ≡ ended_lines (take 67108864 text)
+script_cut text past = let large : nat_le (length text) 67108864 ≡ false = grind (arith, nat_tests) in ap (λ b. cond b (lines text) (ended_lines (take 67108864 text))) large
 
 -- ---- those before the stop
 

@@ -1,8 +1,8 @@
 -- Where a reader stands in the text that a source tells.
-use Rattle.std.specs.Prelude.{ℕ, ◌+◌, ◌≤◌, ◌≡◌, List, [], ◌∷◌, ◌++◌, length, true, Option, Some, Result, Ok, Err}
+use Rattle.std.specs.Prelude.{ℕ, ◌+◌, ◌≤◌, ◌≡◌, List, [], ◌∷◌, ◌++◌, length, drop, nat_le, Bool, true, Option, Some, Result, Ok, Err}
 use Rattle.std.specs.List.{list_all}
 use Rattle.vd_model.specs.Reading.{lines}
-use Rattle.vd_model.specs.Out.{ended, script_lines, is_good, good_lines, stop_of, Too_long}
+use Rattle.vd_model.specs.Out.{ended_lines, script_lines, is_good, good_lines, stop_of, Too_long, text_limit, line_limit}
 use Rattle.vd_lines.specs.declared.reader.Next.{Next}
 use Rattle.vd_lines.specs.declared.reader.Next.TheVariants.{Line, Last, End}
 use Rattle.vd_lines.specs.declared.reader.ReadFault.{ReadFault}
@@ -12,7 +12,7 @@ use Rattle.vd_lines.specs.Ahead.{Ahead}
 -- the bytes that were seen are those lines, each with its LF
 pub record Cuts (seen : List ℕ) (done : List (List ℕ)) : Type 0 where
   pub all : (more : List ℕ) → lines (seen ++ more) ≡ done ++ lines more
-  pub whole : (more : List ℕ) → ended (seen ++ more) ≡ done ++ ended more
+  pub whole : (more : List ℕ) → ended_lines (seen ++ more) ≡ done ++ ended_lines more
 
 -- these lines were read, and the rest of the text is ahead or left in the source
 pub record IsAt (text : List ℕ) (done : List (List ℕ)) (r : Ahead) (left : Option (List ℕ)) : Type 0 where
@@ -36,13 +36,19 @@ pub record IsRead (text : List ℕ) (done : List (List ℕ)) (left : Option (Lis
   pub short : length text ≤ 67108864
   pub none_left : left ≡ Some []
 
--- of what was taken, an LF ends those lines
+-- the line has at most so many bytes as a line may have
+abbrev pub is_short : List ℕ → Bool
+is_short line = nat_le (length line) line_limit
+
+-- of what was taken, an LF ends those lines; what was taken passes no limit, nor does the line behind them
 pub record IsTaken (text : List ℕ) (done : List (List ℕ)) (left : Option (List ℕ)) : Type 0 where
   pub taken : List ℕ
   pub rest : List ℕ
   pub bytes : taken ++ rest ≡ text
   pub left_is : left ≡ Some rest
-  pub ended_are : ended taken ≡ done
+  pub ended_are : ended_lines taken ≡ done
+  pub within : length taken ≤ text_limit
+  pub open_line : list_all is_short (drop (length done) (lines taken)) ≡ true
 
 -- the run stops at a line that is too long, or at the limit
 abbrev pub StopsLong : List ℕ → List (List ℕ) → Type 0

@@ -1,3 +1,5 @@
+//! A reader of lines.
+
 ghost use Rattle.std.specs.Prelude.{◌≡◌, ◌≢◌, ◌<◌, ◌≤◌, ◌+◌, ◌++◌, ◌∷◌, [], ℕ, List, Some, IfOk, OnErr, MatchOption, MatchBool, true, length, slice_index, take, Ok, Err};
 ghost use Rattle.vd_io.specs.Told.{Pulled, Rose};
 ghost use Rattle.vd_lines.specs.Ahead.{Ahead, IsOneLine, IsFilled};

@@ -1,11 +1,36 @@
 //! Mappings, regions and where bytes come from.
 
+ghost use Rattle.std.specs.Prelude.{◌≡◌};
+ghost use Rattle.vd_model.specs.Puts.{is_to_device, is_from_device};
+
 /// Which way a mapping carries bytes; `To` is towards the device.
 #[derive(Clone, Copy, Debug, PartialEq, Eq)]
 pub enum Dir {
     To,
     From,
     Both,
+}
+
+impl Dir {
+    /// Whether a mapping this way hands the driver's bytes to the device.
+    pub fn is_to_device(self) -> bool
+        ensures { result ≡ is_to_device self }
+    {
+        match self {
+            Dir::From => false,
+            Dir::To | Dir::Both => true,
+        }
+    }
+
+    /// Whether a mapping this way brings the device's bytes back to the driver.
+    pub fn is_from_device(self) -> bool
+        ensures { result ≡ is_from_device self }
+    {
+        match self {
+            Dir::To => false,
+            Dir::From | Dir::Both => true,
+        }
+    }
 }
 
 /// A range of a driver's buffer that is to be mapped.
@@ -47,6 +72,11 @@ pub struct Region {
     pub last: u64,
     pub offset: u64,
     pub perm: u8,
+}
+
+impl Region {
+    /// The permission to read and to write (`VDUSE_ACCESS_RW` of `linux/vduse.h`).
+    pub const READ_WRITE: u8 = 3;
 }
 
 /// The sectors of the image that a device's disk has: the first, and how many.

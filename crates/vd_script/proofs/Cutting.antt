@@ -7,7 +7,7 @@ use Rattle.std.proofs.lemmas.Option.{cond_some}
 use Rattle.std.proofs.lemmas.List.Splits.{slice_split_first, slice_split_none, length-slice_split}
 use Rattle.std.proofs.lemmas.List.{take_all, length-drop}
 use Rattle.std.proofs.lemmas.List.Sums.{prefix_len-le-length, fails_before_first}
-use Rattle.vd_model.specs.Forms.{cut_at, done}
+use Rattle.vd_model.specs.Forms.{cut_at, no_more_words}
 
 cond_none : {P : Type 0} (b : Bool) (x : ℕ) → cond b (Some x) None ≡ None → (b ≡ false → P) → P
 cond_none true x e h = absurd cc
@@ -31,6 +31,6 @@ cut_nowhere s left xs e p =
     e ∙ slice_split_none is_cut xs (λ k d lt. fails_before_first is_cut xs k d (omega arith))
 
 -- a text has a word, be it empty
-pub not_done : {S : Type 0} (step : S) (s : ℕ) (left : List (List ℕ)) (xs : List ℕ) → left ≡ cut_at s xs → done step left ≡ None
+pub not_done : {S : Type 0} (step : S) (s : ℕ) (left : List (List ℕ)) (xs : List ℕ) → left ≡ cut_at s xs → no_more_words step left ≡ None
 not_done step s [] xs e = absurd (omega (arith, ap length e, length-slice_split (λ b. eqb b s) xs))
 not_done step s (w ∷ ws) xs e = refl

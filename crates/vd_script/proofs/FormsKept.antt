@@ -5,7 +5,7 @@ use Rattle.std.specs.List.{list_all, join_with_byte}
 use Rattle.std.proofs.lemmas.Bool.{and_parts, and_from, not-true, eq-eqb}
 use Rattle.std.proofs.lemmas.List.{append-nil}
 use Rattle.vd_model.specs.Fields.{Field}
-use Rattle.vd_model.specs.Forms.{Form, cut_at, done, ◌▹◌, one, two, three, four, five, seven}
+use Rattle.vd_model.specs.Forms.{Form, cut_at, no_more_words, ◌▹◌, one_field, two_fields, three_fields, four_fields, five_fields, seven_fields}
 use Rattle.vd_script.proofs.Kept.{has_no, Kept}
 
 -- no word has s
@@ -33,11 +33,11 @@ next_is f form (w ∷ ws) y e = by_field f form w ws y (f w) refl e
     by_field f form w ws y None i e = absurd cc
     by_field f form w ws y (Some a) i e = (w, a, ws, i, e)
 
-pub done_kept : {S : Type 0} {s : ℕ} {text : S → List (List ℕ)} {pre : List (List ℕ)} (x : S) → text x ≡ pre ++ [] → FormKept s text pre (done x)
-done_kept {S} {s} {text} {pre} x e = record { kept = kept }
+pub no_more_words_kept : {S : Type 0} {s : ℕ} {text : S → List (List ℕ)} {pre : List (List ℕ)} (x : S) → text x ≡ pre ++ [] → FormKept s text pre (no_more_words x)
+no_more_words_kept {S} {s} {text} {pre} x e = record { kept = kept }
   where
-    kept : (ws : List (List ℕ)) (y : S) → done x ws ≡ Some y → Rest s text pre (done x) y
-    kept [] y same = let xy : x ≡ y = cc in subst (λ (z : S). Rest s text pre (done x) z) xy (record { rest = []; is = e; reads = refl; whole = refl })
+    kept : (ws : List (List ℕ)) (y : S) → no_more_words x ws ≡ Some y → Rest s text pre (no_more_words x) y
+    kept [] y same = let xy : x ≡ y = cc in subst (λ (z : S). Rest s text pre (no_more_words x) z) xy (record { rest = []; is = e; reads = refl; whole = refl })
     kept (w ∷ ws) y same = absurd cc
 
 pub field_kept : {X S : Type 0} {s : ℕ} {f : Field X} {p : X → List ℕ} {text : S → List (List ℕ)} {pre : List (List ℕ)} {form : X → Form S}
@@ -55,35 +55,35 @@ field_kept {X} {S} {s} {f} {p} {text} {pre} {form} field others = record { kept 
           whole = and_from (has_no s (p h.1)) (all_have_no s r.rest) (field.whole h.0 h.1 h.3) r.whole;
         }
 
-pub one_kept : {A S : Type 0} {s : ℕ} {f : Field A} {p : A → List ℕ} {text : S → List (List ℕ)} {pre : List (List ℕ)} → Kept s f p
-    → (C : A → S) → ((a : A) → text (C a) ≡ pre ++ p a ∷ []) → FormKept s text pre (one f C)
-one_kept {p = p} {pre = pre} f C e = field_kept f (λ a. done_kept (C a) (e a ∙ sym (append-nil (pre ++ p a ∷ []))))
+pub one_field_kept : {A S : Type 0} {s : ℕ} {f : Field A} {p : A → List ℕ} {text : S → List (List ℕ)} {pre : List (List ℕ)} → Kept s f p
+    → (C : A → S) → ((a : A) → text (C a) ≡ pre ++ p a ∷ []) → FormKept s text pre (one_field f C)
+one_field_kept {p = p} {pre = pre} f C e = field_kept f (λ a. no_more_words_kept (C a) (e a ∙ sym (append-nil (pre ++ p a ∷ []))))
 
-pub two_kept : {A B S : Type 0} {s : ℕ} {f : Field A} {g : Field B} {p : A → List ℕ} {q : B → List ℕ} {text : S → List (List ℕ)} {pre : List (List ℕ)} → Kept s f p → Kept s g q
-    → (C : A → B → S) → ((a : A) (b : B) → text (C a b) ≡ pre ++ p a ∷ q b ∷ []) → FormKept s text pre (two f g C)
-two_kept {p = p} {q = q} {pre = pre} f g C e = field_kept f (λ a. one_kept g (C a) (λ b. e a b ∙ sym (append_assoc pre (p a ∷ []) (q b ∷ []))))
+pub two_fields_kept : {A B S : Type 0} {s : ℕ} {f : Field A} {g : Field B} {p : A → List ℕ} {q : B → List ℕ} {text : S → List (List ℕ)} {pre : List (List ℕ)} → Kept s f p → Kept s g q
+    → (C : A → B → S) → ((a : A) (b : B) → text (C a b) ≡ pre ++ p a ∷ q b ∷ []) → FormKept s text pre (two_fields f g C)
+two_fields_kept {p = p} {q = q} {pre = pre} f g C e = field_kept f (λ a. one_field_kept g (C a) (λ b. e a b ∙ sym (append_assoc pre (p a ∷ []) (q b ∷ []))))
 
-pub three_kept : {A B D S : Type 0} {s : ℕ} {f : Field A} {g : Field B} {h : Field D} {p : A → List ℕ} {q : B → List ℕ} {r : D → List ℕ} {text : S → List (List ℕ)} {pre : List (List ℕ)}
-    → Kept s f p → Kept s g q → Kept s h r → (C : A → B → D → S) → ((a : A) (b : B) (d : D) → text (C a b d) ≡ pre ++ p a ∷ q b ∷ r d ∷ []) → FormKept s text pre (three f g h C)
-three_kept {p = p} {q = q} {r = r} {pre = pre} f g h C e = field_kept f (λ a. two_kept g h (C a) (λ b d. e a b d ∙ sym (append_assoc pre (p a ∷ []) (q b ∷ r d ∷ []))))
+pub three_fields_kept : {A B D S : Type 0} {s : ℕ} {f : Field A} {g : Field B} {h : Field D} {p : A → List ℕ} {q : B → List ℕ} {r : D → List ℕ} {text : S → List (List ℕ)} {pre : List (List ℕ)}
+    → Kept s f p → Kept s g q → Kept s h r → (C : A → B → D → S) → ((a : A) (b : B) (d : D) → text (C a b d) ≡ pre ++ p a ∷ q b ∷ r d ∷ []) → FormKept s text pre (three_fields f g h C)
+three_fields_kept {p = p} {q = q} {r = r} {pre = pre} f g h C e = field_kept f (λ a. two_fields_kept g h (C a) (λ b d. e a b d ∙ sym (append_assoc pre (p a ∷ []) (q b ∷ r d ∷ []))))
 
-pub four_kept : {A B D E S : Type 0} {s : ℕ} {f : Field A} {g : Field B} {h : Field D} {i : Field E} {p : A → List ℕ} {q : B → List ℕ} {r : D → List ℕ} {t : E → List ℕ} {text : S → List (List ℕ)} {pre : List (List ℕ)}
+pub four_fields_kept : {A B D E S : Type 0} {s : ℕ} {f : Field A} {g : Field B} {h : Field D} {i : Field E} {p : A → List ℕ} {q : B → List ℕ} {r : D → List ℕ} {t : E → List ℕ} {text : S → List (List ℕ)} {pre : List (List ℕ)}
     → Kept s f p → Kept s g q → Kept s h r → Kept s i t → (C : A → B → D → E → S)
-    → ((a : A) (b : B) (d : D) (e : E) → text (C a b d e) ≡ pre ++ p a ∷ q b ∷ r d ∷ t e ∷ []) → FormKept s text pre (four f g h i C)
-four_kept {p = p} {q = q} {r = r} {t = t} {pre = pre} f g h i C e = field_kept f (λ a. three_kept g h i (C a) (λ b d k. e a b d k ∙ sym (append_assoc pre (p a ∷ []) (q b ∷ r d ∷ t k ∷ []))))
+    → ((a : A) (b : B) (d : D) (e : E) → text (C a b d e) ≡ pre ++ p a ∷ q b ∷ r d ∷ t e ∷ []) → FormKept s text pre (four_fields f g h i C)
+four_fields_kept {p = p} {q = q} {r = r} {t = t} {pre = pre} f g h i C e = field_kept f (λ a. three_fields_kept g h i (C a) (λ b d k. e a b d k ∙ sym (append_assoc pre (p a ∷ []) (q b ∷ r d ∷ t k ∷ []))))
 
-pub five_kept : {A B D E F S : Type 0} {s : ℕ} {f : Field A} {g : Field B} {h : Field D} {i : Field E} {j : Field F} {p : A → List ℕ} {q : B → List ℕ} {r : D → List ℕ} {t : E → List ℕ} {u : F → List ℕ}
+pub five_fields_kept : {A B D E F S : Type 0} {s : ℕ} {f : Field A} {g : Field B} {h : Field D} {i : Field E} {j : Field F} {p : A → List ℕ} {q : B → List ℕ} {r : D → List ℕ} {t : E → List ℕ} {u : F → List ℕ}
     {text : S → List (List ℕ)} {pre : List (List ℕ)} → Kept s f p → Kept s g q → Kept s h r → Kept s i t → Kept s j u → (C : A → B → D → E → F → S)
-    → ((a : A) (b : B) (d : D) (e : E) (k : F) → text (C a b d e k) ≡ pre ++ p a ∷ q b ∷ r d ∷ t e ∷ u k ∷ []) → FormKept s text pre (five f g h i j C)
-five_kept {p = p} {q = q} {r = r} {t = t} {u = u} {pre = pre} f g h i j C e =
-    field_kept f (λ a. four_kept g h i j (C a) (λ b d k l. e a b d k l ∙ sym (append_assoc pre (p a ∷ []) (q b ∷ r d ∷ t k ∷ u l ∷ []))))
+    → ((a : A) (b : B) (d : D) (e : E) (k : F) → text (C a b d e k) ≡ pre ++ p a ∷ q b ∷ r d ∷ t e ∷ u k ∷ []) → FormKept s text pre (five_fields f g h i j C)
+five_fields_kept {p = p} {q = q} {r = r} {t = t} {u = u} {pre = pre} f g h i j C e =
+    field_kept f (λ a. four_fields_kept g h i j (C a) (λ b d k l. e a b d k l ∙ sym (append_assoc pre (p a ∷ []) (q b ∷ r d ∷ t k ∷ u l ∷ []))))
 
-pub seven_kept : {A B D E F G H S : Type 0} {s : ℕ} {f : Field A} {g : Field B} {h : Field D} {i : Field E} {j : Field F} {k : Field G} {l : Field H}
+pub seven_fields_kept : {A B D E F G H S : Type 0} {s : ℕ} {f : Field A} {g : Field B} {h : Field D} {i : Field E} {j : Field F} {k : Field G} {l : Field H}
     {p : A → List ℕ} {q : B → List ℕ} {r : D → List ℕ} {t : E → List ℕ} {u : F → List ℕ} {v : G → List ℕ} {w : H → List ℕ} {text : S → List (List ℕ)} {pre : List (List ℕ)}
     → Kept s f p → Kept s g q → Kept s h r → Kept s i t → Kept s j u → Kept s k v → Kept s l w → (C : A → B → D → E → F → G → H → S)
-    → ((a : A) (b : B) (d : D) (e : E) (x : F) (y : G) (z : H) → text (C a b d e x y z) ≡ pre ++ p a ∷ q b ∷ r d ∷ t e ∷ u x ∷ v y ∷ w z ∷ []) → FormKept s text pre (seven f g h i j k l C)
-seven_kept {p = p} {q = q} {r = r} {t = t} {u = u} {v = v} {w = w} {pre = pre} f g h i j k l C e =
-    field_kept f (λ a. field_kept g (λ b. five_kept h i j k l (C a b) (λ d m x y z. e a b d m x y z
+    → ((a : A) (b : B) (d : D) (e : E) (x : F) (y : G) (z : H) → text (C a b d e x y z) ≡ pre ++ p a ∷ q b ∷ r d ∷ t e ∷ u x ∷ v y ∷ w z ∷ []) → FormKept s text pre (seven_fields f g h i j k l C)
+seven_fields_kept {p = p} {q = q} {r = r} {t = t} {u = u} {v = v} {w = w} {pre = pre} f g h i j k l C e =
+    field_kept f (λ a. field_kept g (λ b. five_fields_kept h i j k l (C a b) (λ d m x y z. e a b d m x y z
     ∙ sym (append_assoc pre (p a ∷ []) (q b ∷ r d ∷ t m ∷ u x ∷ v y ∷ w z ∷ [])) ∙ sym (append_assoc (pre ++ p a ∷ []) (q b ∷ []) (r d ∷ t m ∷ u x ∷ v y ∷ w z ∷ [])))))
 
 -- ---- joined words are cut into these words again

@@ -15,7 +15,7 @@ use Rattle.vd_model.specs.declared.memory.Dir.{Dir}
 use Rattle.vd_model.specs.declared.memory.Dir.TheVariants.{To, From, Both}
 use Rattle.vd_model.specs.declared.step.QueueOrConfig.{QueueOrConfig}
 use Rattle.vd_model.specs.declared.step.QueueOrConfig.TheVariants as on
-use Rattle.vd_model.specs.Fields.{Field, digit, digits_from, numeral, within, number_in, u64_field, u32_field, u16_field, is_name_byte, is_name, name_field, hex_field, optional_hex_field, flag_field, dir_field, on_field, writable_field}
+use Rattle.vd_model.specs.Fields.{Field, digit, digits_from, numeral, number_within, number_in, u64_field, u32_field, u16_field, is_name_byte, is_name, name_field, hex_field, optional_hex_field, flag_field, dir_field, on_field, writable_field}
 use Rattle.vd_model.specs.Text.{flag_text, dir_text, on_text, optional_hex_text, writable_text}
 
 -- no byte of the word is s
@@ -92,19 +92,19 @@ pub decimal_whole : (s : ℕ) → is_ascii_digit s ≡ false → (n : ℕ) → n
 decimal_whole s fails n lt = digits_whole s fails (decimal n) (digits_decimal own n lt)
 
 -- what a number between two bounds says
-within_is : (low high n : ℕ) (o : Option ℕ) → within low high o ≡ Some n → (o ≡ Some n) × (n ≤ high) × (within low high (Some n) ≡ Some n)
-within_is low high n None e = absurd cc
-within_is low high n (Some m) e =
+number_within_is : (low high n : ℕ) (o : Option ℕ) → number_within low high o ≡ Some n → (o ≡ Some n) × (n ≤ high) × (number_within low high (Some n) ≡ Some n)
+number_within_is low high n None e = absurd cc
+number_within_is low high n (Some m) e =
     let h = cond_some (leb low m && leb m high) m n e in
     let parts = and_parts (leb low m) (leb m high) h.0 in
     let below = leb-true m high parts.1 in
-    (ap Some h.1, omega (arith, h.1), subst (λ (k : ℕ). within low high (Some k) ≡ Some k) h.1 (rw h.0 refl))
+    (ap Some h.1, omega (arith, h.1), subst (λ (k : ℕ). number_within low high (Some k) ≡ Some k) h.1 (rw h.0 refl))
 
 pub number_kept : (s : ℕ) → is_ascii_digit s ≡ false → (low high : ℕ) → high < 2 ^ 64 → Kept s (number_in low high) decimal
 unfolding number_in
 number_kept s fails low high lt = record {
-  back = λ w n e. let h = within_is low high n (numeral w) e in rw (numeral-decimal n (omega (arith, h.1))) h.2;
-  whole = λ w n e. let h = within_is low high n (numeral w) e in decimal_whole s fails n (omega (arith, h.1));
+  back = λ w n e. let h = number_within_is low high n (numeral w) e in rw (numeral-decimal n (omega (arith, h.1))) h.2;
+  whole = λ w n e. let h = number_within_is low high n (numeral w) e in decimal_whole s fails n (omega (arith, h.1));
 }
 
 -- ---- names
@@ -240,7 +240,7 @@ u16_kept = number_kept 32 refl 0 (2 ^ 16 - 1) (omega arith)
 
 u32_below : (w : List ℕ) (n : ℕ) → u32_field w ≡ Some n → n < 2 ^ 64
 unfolding number_in
-u32_below w n e = let h = within_is 0 (2 ^ 32 - 1) n (numeral w) e in omega (arith, h.1)
+u32_below w n e = let h = number_within_is 0 (2 ^ 32 - 1) n (numeral w) e in omega (arith, h.1)
 
 pub map_is : {A B : Type 0} (C : A → B) (o : Option A) (y : B) → option_map C o ≡ Some y → (x : A) × (o ≡ Some x) × (C x ≡ y)
 map_is C None y e = absurd cc

@@ -1,5 +1,6 @@
 pub mod Cutting
 pub mod Numbers
+pub mod Tables
 pub mod HexDigits
 pub mod Parts
 pub mod Lines
@@ -14,3 +15,4 @@ pub mod BusRows
 pub mod DriverRows
 pub mod QueueRows
 pub mod StepsKept
+pub mod FirstWords

@@ -20,10 +20,14 @@ words_step text old now new xs i d lt so_far put =
     put ∙ ap (λ (t : List ℕ). t ++ (32 ∷ text (get_or xs i d))) so_far ∙ append_assoc old (behind 32 (map text (take i xs))) (32 ∷ text (get_or xs i d))
     ∙ ap (λ (t : List ℕ). old ++ t) (sym (ap (behind 32) more ∙ behind-push 32 (map text (take i xs)) (text (get_or xs i d))))
 
+-- a first word, a name, and words behind them
+pub named_words : (old begun now f d : List ℕ) (ws : List (List ℕ)) → begun ≡ old ++ f → now ≡ begun ++ 32 ∷ d → now ++ behind 32 ws ≡ old ++ (f ++ (32 ∷ join_with_byte 32 (d ∷ ws)))
+named_words old begun now f d ws b n = rw (n, b, join-behind 32 d ws) (simp append_assoc)
+
 -- a first word, a name, a word, and words behind them
-pub more_words : (old begun now f f' d q q' : List ℕ) (ws : List (List ℕ)) → f ≡ f' → q ≡ q' → begun ≡ old ++ (f ++ 32 ∷ d) → now ≡ begun ++ 32 ∷ q
+pub more_words : (old now f f' d q q' : List ℕ) (ws : List (List ℕ)) → f ≡ f' → q ≡ q' → now ≡ old ++ (f ++ 32 ∷ (d ++ 32 ∷ q))
     → now ++ behind 32 ws ≡ old ++ (f' ++ (32 ∷ (d ++ (32 ∷ join_with_byte 32 (q' ∷ ws)))))
-more_words old begun now f f' d q q' ws fe qe b n = rw (n, b, fe, qe, join-behind 32 q' ws) (simp append_assoc)
+more_words old now f f' d q q' ws fe qe n = rw (n, fe, qe, join-behind 32 q' ws) (simp append_assoc)
 
 -- a first word, and words behind it
 pub words_behind : (old now w : List ℕ) (ws : List (List ℕ)) → now ≡ old ++ w → now ++ behind 32 ws ≡ old ++ join_with_byte 32 (w ∷ ws)

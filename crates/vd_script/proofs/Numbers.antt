@@ -4,32 +4,32 @@ use Rattle.std.proofs.Math.Seq.{drop-cons}
 use Rattle.std.proofs.Math.ListN.{drop_of_length-le}
 use Rattle.std.proofs.Math.Nat.{mul-le-mul_left}
 use Rattle.std.proofs.lemmas.Grind.{common_steps}
-use Rattle.vd_model.specs.Fields.{digit, digits_from, within}
+use Rattle.vd_model.specs.Fields.{digit, digits_from, number_within}
 
-above : (n : ℕ) → 2 ^ 64 ≤ n → within 0 (2 ^ 64 - 1) (Some n) ≡ None
+above : (n : ℕ) → 2 ^ 64 ≤ n → number_within 0 (2 ^ 64 - 1) (Some n) ≡ None
 above n h = grind (arith, common_steps)
 
-fits : (n : ℕ) → n < 2 ^ 64 → within 0 (2 ^ 64 - 1) (Some n) ≡ Some n
+fits : (n : ℕ) → n < 2 ^ 64 → number_within 0 (2 ^ 64 - 1) (Some n) ≡ Some n
 fits n h = grind (arith, common_steps)
 
-too_big : (radix n : ℕ) (ds : List ℕ) → 1 ≤ radix → 2 ^ 64 ≤ n → within 0 (2 ^ 64 - 1) (digits_from radix n ds) ≡ None
+too_big : (radix n : ℕ) (ds : List ℕ) → 1 ≤ radix → 2 ^ 64 ≤ n → number_within 0 (2 ^ 64 - 1) (digits_from radix n ds) ≡ None
 too_big radix n [] r h = above n h
 too_big radix n (d ∷ ds) r h =
     let grows : n * 1 ≤ n * radix = mul-le-mul_left n r in
     let next = too_big radix (n * radix + digit d) ds r (omega (arith, grows)) in
-    elim (ltb (digit d) radix) as (λ b. within 0 (2 ^ 64 - 1) (cond b (digits_from radix (n * radix + digit d) ds) None) ≡ None) [ true ↦ next | false ↦ refl ]
+    elim (ltb (digit d) radix) as (λ b. number_within 0 (2 ^ 64 - 1) (cond b (digits_from radix (n * radix + digit d) ds) None) ≡ None) [ true ↦ next | false ↦ refl ]
 
 step : (radix n i : ℕ) (ds : List ℕ) → i < length ds → digit (get_or ds i 0) < radix → digits_from radix n (drop i ds) ≡ digits_from radix (n * radix + digit (get_or ds i 0)) (drop (i + 1) ds)
 step radix n i ds lt below = rw (add-one, drop-cons ds i 0) (grind (arith, common_steps))
 
 pub passes_end : (radix n i d : ℕ) (ds : List ℕ) (total : Option ℕ) → i < length ds → 1 ≤ radix → d ≡ digit (get_or ds i 0) → d < radix → (n * radix + d < 2 ^ 64 → ⊥)
-    → digits_from radix n (drop i ds) ≡ total → None ≡ within 0 (2 ^ 64 - 1) total
+    → digits_from radix n (drop i ds) ≡ total → None ≡ number_within 0 (2 ^ 64 - 1) total
 passes_end radix n i d ds total lt r is below big so_far =
     let large : 2 ^ 64 ≤ n * radix + digit (get_or ds i 0) = rw (← is) (omega (arith, big)) in
     let digit_below : digit (get_or ds i 0) < radix = rw (← is) below in
-    sym (ap (within 0 (2 ^ 64 - 1)) (sym so_far ∙ step radix n i ds lt digit_below) ∙ too_big radix (n * radix + digit (get_or ds i 0)) (drop (i + 1) ds) r large)
+    sym (ap (number_within 0 (2 ^ 64 - 1)) (sym so_far ∙ step radix n i ds lt digit_below) ∙ too_big radix (n * radix + digit (get_or ds i 0)) (drop (i + 1) ds) r large)
 
-pub is_read : (radix n i : ℕ) (ds : List ℕ) (total : Option ℕ) → length ds ≤ i → n < 2 ^ 64 → digits_from radix n (drop i ds) ≡ total → Some n ≡ within 0 (2 ^ 64 - 1) total
+pub is_read : (radix n i : ℕ) (ds : List ℕ) (total : Option ℕ) → length ds ≤ i → n < 2 ^ 64 → digits_from radix n (drop i ds) ≡ total → Some n ≡ number_within 0 (2 ^ 64 - 1) total
 is_read radix n i ds total le lt so_far =
     let nothing : drop i ds ≡ [] = drop_of_length-le ds le in
-    sym (ap (within 0 (2 ^ 64 - 1)) (sym so_far ∙ ap (digits_from radix n) nothing) ∙ fits n lt)
+    sym (ap (number_within 0 (2 ^ 64 - 1)) (sym so_far ∙ ap (digits_from radix n) nothing) ∙ fits n lt)

@@ -9,7 +9,7 @@ use Rattle.vd_model.specs.declared.step.Step.{Step}
 use Rattle.vd_model.specs.declared.step.Step.TheVariants.{Control, Device, Queue}
 use Rattle.vd_model.specs.declared.step.DevStep.TheVariants.{Node, Area, Bus, Driver}
 use Rattle.vd_model.specs.Fields.{name_field}
-use Rattle.vd_model.specs.Forms.{Form, cut_at, ◌▹◌, wrapped}
+use Rattle.vd_model.specs.Forms.{Form, cut_at, ◌▹◌, form_as}
 use Rattle.vd_model.specs.ControlLines.{control_form, control_text}
 use Rattle.vd_model.specs.NodeLines.{node_form, node_text}
 use Rattle.vd_model.specs.AreaLines.{area_form, area_text}
@@ -47,11 +47,11 @@ reads_step (c ∷ cs) ws s first whole e =
 
 -- the words of a step with a device's name
 named : {S : Type 0} (k : Keyword) (name : List ℕ) (form : Form S) (text : S → List (List ℕ)) (make : List ℕ → S → Step) → RowKept k name form text
-    → ((ws : List (List ℕ)) → form_of k ws ≡ (name_field ▹ λ d. wrapped (make d) form) ws) → ((d : List ℕ) (x : S) → step_text (make d x) ≡ with_name d (text x))
+    → ((ws : List (List ℕ)) → form_of k ws ≡ (name_field ▹ λ d. form_as (make d) form) ws) → ((d : List ℕ) (x : S) → step_text (make d x) ≡ with_name d (text x))
     → (ws : List (List ℕ)) (s : Step) → form_of k ws ≡ Some s → Again s
 unfolding step_form
 named k name form text make row is written ws s e =
-    let h = next_is name_field (λ d. wrapped (make d) form) ws s (sym (is ws) ∙ e) in
+    let h = next_is name_field (λ d. form_as (make d) form) ws s (sym (is ws) ∙ e) in
     let m = map_is (make h.1) (form h.2) s h.4 in
     let r = row.kept.kept h.2 m.0 m.1 in
     let words : step_text (make h.1 m.0) ≡ name ∷ h.1 ∷ r.rest = written h.1 m.0 ∙ ap (with_name h.1) r.is in
@@ -61,7 +61,7 @@ named k name form text make row is written ws s e =
     subst Again m.2 (ap (λ (t : List (List ℕ)). reading (join_with_byte 32 t)) words ∙ reads_step name (h.1 ∷ r.rest) (make h.1 m.0) row.first whole read)
 
 plain : {S : Type 0} (k : Keyword) (name : List ℕ) (form : Form S) (text : S → List (List ℕ)) (make : S → Step) → RowKept k name form text
-    → ((ws : List (List ℕ)) → form_of k ws ≡ wrapped make form ws) → ((x : S) → step_text (make x) ≡ text x)
+    → ((ws : List (List ℕ)) → form_of k ws ≡ form_as make form ws) → ((x : S) → step_text (make x) ≡ text x)
     → (ws : List (List ℕ)) (s : Step) → form_of k ws ≡ Some s → Again s
 unfolding step_form
 plain k name form text make row is written ws s e =

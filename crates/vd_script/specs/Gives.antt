@@ -3,7 +3,7 @@ use Rattle.std.specs.Prelude.{◌≡◌, ℕ, List, Option, Some, None, Result, 
 use Rattle.vd_script.specs.declared.error.LineError.{LineError}
 use Rattle.vd_script.specs.declared.error.LineError.TheVariants.{Bad, Memory}
 use Rattle.vd_model.specs.Fields.{Field}
-use Rattle.vd_model.specs.Forms.{next, done}
+use Rattle.vd_model.specs.Forms.{next_field, no_more_words}
 
 -- Bad exactly where nothing is read, unless memory ran out.
 abbrev pub Fails : {X : Type 0} → LineError → Option X → Type 0
@@ -16,10 +16,15 @@ Gives (Err e) read = Fails e read
 
 -- A call took the next word, and left the words after it.
 abbrev pub Takes : {X : Type 0} → Field X → List (List ℕ) → Result X LineError → List (List ℕ) → Type 0
-Takes f old (Ok x) new = next f old ≡ Some (x, new)
-Takes f old (Err e) new = Fails e (next f old)
+Takes f old (Ok x) new = next_field f old ≡ Some (x, new)
+Takes f old (Err e) new = Fails e (next_field f old)
 
 -- No word is left behind the step.
 abbrev pub Ends : {S : Type 0} → S → List (List ℕ) → Result S LineError → Type 0
-Ends s ws (Ok r) = (r ≡ s) × (done s ws ≡ Some s)
-Ends s ws (Err e) = (e ≡ Bad) × (done s ws ≡ None)
+Ends s ws (Ok r) = (r ≡ s) × (no_more_words s ws ≡ Some s)
+Ends s ws (Err e) = (e ≡ Bad) × (no_more_words s ws ≡ None)
+
+-- What a call leaves in a list is what is read.
+abbrev pub GivesInto : Result (Unit {0}) LineError → List ℕ → Option (List ℕ) → Type 0
+GivesInto (Ok x) bytes read = read ≡ Some bytes
+GivesInto (Err e) bytes read = Fails e read

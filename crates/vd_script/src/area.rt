@@ -7,17 +7,17 @@ ghost use Rattle.vd_model.specs.AreaLines.{area_form, area_text};
 ghost use Rattle.vd_model.specs.Spelling.{with_name};
 
 use crate::error::LineError;
-use crate::put::{begin, put_hex, put_number};
+use crate::put::{begin, put_hex};
 use crate::words::Words;
-use std::alloc::{AllocError, Global};
-use vd_model::{AreaStep, AreaWord, Bytes, Name};
+use std::alloc::AllocError;
+use vd_model::{AreaStep, AreaWord, Bytes, Text};
 
 /// The step that the words behind the first word and the name say.
-pub fn area_step(
-    alloc: Global,
+pub fn area_step<'a>(
+    scratch: &'a mut Vec<u8>,
     word: AreaWord,
-    words: &mut Words<'_>,
-) -> Result<AreaStep, LineError>
+    words: &mut Words<'a>,
+) -> Result<AreaStep<'a>, LineError>
     ensures { Gives result (area_form word words.old) }
 {
     match word {
@@ -44,7 +44,7 @@ pub fn area_step(
         AreaWord::AreaPut => {
             let step = AreaStep::AreaPut {
                 offset: words.u64()?,
-                bytes: words.hex(alloc)?,
+                bytes: words.hex(scratch)?,
             };
             words.done(step)
         }
@@ -80,7 +80,7 @@ pub fn area_step(
         AreaWord::Store => {
             let step = AreaStep::Store {
                 addr: words.u64()?,
-                bytes: words.hex(alloc)?,
+                bytes: words.hex(scratch)?,
             };
             words.done(step)
         }
@@ -88,54 +88,49 @@ pub fn area_step(
 }
 
 /// Appends the step's line.
-pub fn print_area(name: &Name, step: &AreaStep, into: &mut Bytes) -> Result<(), AllocError>
+pub fn print_area(name: &Text<'_>, step: &AreaStep<'_>, into: &mut Bytes) -> Result<(), AllocError>
     ensures { OnOk result (into.new ≡ into.old ++ join_with_byte 32 (with_name name.now (area_text step.now))) }
 {
     match step {
-        AreaStep::Lookup { start, last } => {
-            begin(into, AreaWord::Lookup.text(), name)?;
-            put_number(into, *start)?;
-            put_number(into, *last)
-        }
-        AreaStep::IovaInfo { start, last } => {
-            begin(into, AreaWord::IovaInfo.text(), name)?;
-            put_number(into, *start)?;
-            put_number(into, *last)
-        }
-        AreaStep::Area { bytes } => {
-            begin(into, AreaWord::Area.text(), name)?;
-            put_number(into, *bytes)
-        }
+        AreaStep::Lookup { start, last } => begin(
+            into,
+            AreaWord::Lookup.text(),
+            name,
+            &[*start, *last],
+        ),
+        AreaStep::IovaInfo { start, last } => begin(
+            into,
+            AreaWord::IovaInfo.text(),
+            name,
+            &[*start, *last],
+        ),
+        AreaStep::Area { bytes } => begin(into, AreaWord::Area.text(), name, &[*bytes]),
         AreaStep::AreaPut { offset, bytes } => {
-            begin(into, AreaWord::AreaPut.text(), name)?;
-            put_number(into, *offset)?;
-            put_hex(into, bytes)
+            begin(into, AreaWord::AreaPut.text(), name, &[*offset])?;
+            put_hex(into, bytes.as_slice())
         }
-        AreaStep::AreaGet { offset, len } => {
-            begin(into, AreaWord::AreaGet.text(), name)?;
-            put_number(into, *offset)?;
-            put_number(into, *len)
-        }
-        AreaStep::RegUmem { uaddr, iova, size } => {
-            begin(into, AreaWord::RegUmem.text(), name)?;
-            put_number(into, *uaddr)?;
-            put_number(into, *iova)?;
-            put_number(into, *size)
-        }
-        AreaStep::DeregUmem { iova, size } => {
-            begin(into, AreaWord::DeregUmem.text(), name)?;
-            put_number(into, *iova)?;
-            put_number(into, *size)
-        }
-        AreaStep::Load { addr, len } => {
-            begin(into, AreaWord::Load.text(), name)?;
-            put_number(into, *addr)?;
-            put_number(into, *len)
-        }
+        AreaStep::AreaGet { offset, len } => begin(
+            into,
+            AreaWord::AreaGet.text(),
+            name,
+            &[*offset, *len],
+        ),
+        AreaStep::RegUmem { uaddr, iova, size } => begin(
+            into,
+            AreaWord::RegUmem.text(),
+            name,
+            &[*uaddr, *iova, *size],
+        ),
+        AreaStep::DeregUmem { iova, size } => begin(
+            into,
+            AreaWord::DeregUmem.text(),
+            name,
+            &[*iova, *size],
+        ),
+        AreaStep::Load { addr, len } => begin(into, AreaWord::Load.text(), name, &[*addr, *len]),
         AreaStep::Store { addr, bytes } => {
-            begin(into, AreaWord::Store.text(), name)?;
-            put_number(into, *addr)?;
-            put_hex(into, bytes)
+            begin(into, AreaWord::Store.text(), name, &[*addr])?;
+            put_hex(into, bytes.as_slice())
         }
     }
 }

@@ -7,10 +7,10 @@ ghost use Rattle.vd_model.specs.BusLines.{bus_form, bus_text};
 ghost use Rattle.vd_model.specs.Spelling.{with_name};
 
 use crate::error::LineError;
-use crate::put::{begin, put_flag, put_number, put_on};
+use crate::put::{begin, put_flag, put_on};
 use crate::words::Words;
 use std::alloc::AllocError;
-use vd_model::{BusStep, BusWord, Bytes, Name};
+use vd_model::{BusStep, BusWord, Bytes, Text};
 
 /// The step that the words behind the first word and the name say.
 pub fn bus_step(word: BusWord, words: &mut Words<'_>) -> Result<BusStep, LineError>
@@ -108,79 +108,82 @@ pub fn bus_step(word: BusWord, words: &mut Words<'_>) -> Result<BusStep, LineErr
 }
 
 /// Appends the step's line.
-pub fn print_bus(name: &Name, step: &BusStep, into: &mut Bytes) -> Result<(), AllocError>
+pub fn print_bus(name: &Text<'_>, step: &BusStep, into: &mut Bytes) -> Result<(), AllocError>
     ensures { OnOk result (into.new ≡ into.old ++ join_with_byte 32 (with_name name.now (bus_text step.now))) }
 {
     match step {
-        BusStep::Attach => begin(into, BusWord::Attach.text(), name),
-        BusStep::Detach => begin(into, BusWord::Detach.text(), name),
-        BusStep::Offered => begin(into, BusWord::Offered.text(), name),
-        BusStep::SetFeatures { features } => {
-            begin(into, BusWord::SetFeatures.text(), name)?;
-            put_number(into, *features)
-        }
-        BusStep::GetStatus => begin(into, BusWord::GetStatus.text(), name),
-        BusStep::SetStatus { status } => {
-            begin(into, BusWord::SetStatus.text(), name)?;
-            put_number(into, u64::from(*status))
-        }
-        BusStep::Reset => begin(into, BusWord::Reset.text(), name),
-        BusStep::VqNum { queue, num } => {
-            begin(into, BusWord::VqNum.text(), name)?;
-            put_number(into, u64::from(*queue))?;
-            put_number(into, *num)
-        }
+        BusStep::Attach => begin(into, BusWord::Attach.text(), name, &[]),
+        BusStep::Detach => begin(into, BusWord::Detach.text(), name, &[]),
+        BusStep::Offered => begin(into, BusWord::Offered.text(), name, &[]),
+        BusStep::SetFeatures { features } => begin(
+            into,
+            BusWord::SetFeatures.text(),
+            name,
+            &[*features],
+        ),
+        BusStep::GetStatus => begin(into, BusWord::GetStatus.text(), name, &[]),
+        BusStep::SetStatus { status } => begin(
+            into,
+            BusWord::SetStatus.text(),
+            name,
+            &[u64::from(*status)],
+        ),
+        BusStep::Reset => begin(into, BusWord::Reset.text(), name, &[]),
+        BusStep::VqNum { queue, num } => begin(
+            into,
+            BusWord::VqNum.text(),
+            name,
+            &[u64::from(*queue), *num],
+        ),
         BusStep::VqAddr {
             queue,
             desc,
             driver,
             device,
-        } => {
-            begin(into, BusWord::VqAddr.text(), name)?;
-            put_number(into, u64::from(*queue))?;
-            put_number(into, *desc)?;
-            put_number(into, *driver)?;
-            put_number(into, *device)
-        }
+        } => begin(
+            into,
+            BusWord::VqAddr.text(),
+            name,
+            &[u64::from(*queue), *desc, *driver, *device],
+        ),
         BusStep::VqReady { queue, flag } => {
-            begin(into, BusWord::VqReady.text(), name)?;
-            put_number(into, u64::from(*queue))?;
+            begin(into, BusWord::VqReady.text(), name, &[u64::from(*queue)])?;
             put_flag(into, *flag)
         }
-        BusStep::SetVqState { queue, avail } => {
-            begin(into, BusWord::SetVqState.text(), name)?;
-            put_number(into, u64::from(*queue))?;
-            put_number(into, u64::from(*avail))
-        }
-        BusStep::GetVqState { queue } => {
-            begin(into, BusWord::GetVqState.text(), name)?;
-            put_number(into, u64::from(*queue))
-        }
-        BusStep::Kick { queue } => {
-            begin(into, BusWord::Kick.text(), name)?;
-            put_number(into, u64::from(*queue))
-        }
+        BusStep::SetVqState { queue, avail } => begin(
+            into,
+            BusWord::SetVqState.text(),
+            name,
+            &[u64::from(*queue), u64::from(*avail)],
+        ),
+        BusStep::GetVqState { queue } => begin(
+            into,
+            BusWord::GetVqState.text(),
+            name,
+            &[u64::from(*queue)],
+        ),
+        BusStep::Kick { queue } => begin(into, BusWord::Kick.text(), name, &[u64::from(*queue)]),
         BusStep::Callback { on, flag } => {
-            begin(into, BusWord::Callback.text(), name)?;
+            begin(into, BusWord::Callback.text(), name, &[])?;
             put_on(into, *on)?;
             put_flag(into, *flag)
         }
         BusStep::Irqs { on } => {
-            begin(into, BusWord::Irqs.text(), name)?;
+            begin(into, BusWord::Irqs.text(), name, &[])?;
             put_on(into, *on)
         }
-        BusStep::GetConfig { offset, len } => {
-            begin(into, BusWord::GetConfig.text(), name)?;
-            put_number(into, *offset)?;
-            put_number(into, *len)
-        }
-        BusStep::Timeout { seconds } => {
-            begin(into, BusWord::Timeout.text(), name)?;
-            put_number(into, u64::from(*seconds))
-        }
-        BusStep::Take { id } => {
-            begin(into, BusWord::Take.text(), name)?;
-            put_number(into, u64::from(*id))
-        }
+        BusStep::GetConfig { offset, len } => begin(
+            into,
+            BusWord::GetConfig.text(),
+            name,
+            &[*offset, *len],
+        ),
+        BusStep::Timeout { seconds } => begin(
+            into,
+            BusWord::Timeout.text(),
+            name,
+            &[u64::from(*seconds)],
+        ),
+        BusStep::Take { id } => begin(into, BusWord::Take.text(), name, &[u64::from(*id)]),
     }
 }

@@ -7,23 +7,23 @@ ghost use Rattle.vd_model.specs.DriverLines.{driver_form, driver_text};
 ghost use Rattle.vd_model.specs.Spelling.{with_name};
 
 use crate::error::LineError;
-use crate::put::{begin, put_dir, put_hex, put_number};
+use crate::put::{begin, put_dir, put_hex};
 use crate::words::Words;
-use std::alloc::{AllocError, Global};
-use vd_model::{Bytes, DriverStep, DriverWord, Name};
+use std::alloc::AllocError;
+use vd_model::{Bytes, DriverStep, DriverWord, Text};
 
 /// The step that the words behind the first word and the name say.
-pub fn driver_step(
-    alloc: Global,
+pub fn driver_step<'a>(
+    scratch: &'a mut Vec<u8>,
     word: DriverWord,
-    words: &mut Words<'_>,
-) -> Result<DriverStep, LineError>
+    words: &mut Words<'a>,
+) -> Result<DriverStep<'a>, LineError>
     ensures { Gives result (driver_form word words.old) }
 {
     match word {
         DriverWord::Buf => {
             let step = DriverStep::Buf {
-                bytes: words.hex(alloc)?,
+                bytes: words.hex(scratch)?,
             };
             words.done(step)
         }
@@ -43,7 +43,7 @@ pub fn driver_step(
             let step = DriverStep::Poke {
                 buffer: words.u64()?,
                 offset: words.u64()?,
-                bytes: words.hex(alloc)?,
+                bytes: words.hex(scratch)?,
             };
             words.done(step)
         }
@@ -96,7 +96,7 @@ pub fn driver_step(
             let step = DriverStep::Cput {
                 region: words.u64()?,
                 offset: words.u64()?,
-                bytes: words.hex(alloc)?,
+                bytes: words.hex(scratch)?,
             };
             words.done(step)
         }
@@ -112,93 +112,89 @@ pub fn driver_step(
 }
 
 /// Appends the step's line.
-pub fn print_driver(name: &Name, step: &DriverStep, into: &mut Bytes) -> Result<(), AllocError>
+pub fn print_driver(
+    name: &Text<'_>,
+    step: &DriverStep<'_>,
+    into: &mut Bytes,
+) -> Result<(), AllocError>
     ensures { OnOk result (into.new ≡ into.old ++ join_with_byte 32 (with_name name.now (driver_text step.now))) }
 {
     match step {
         DriverStep::Buf { bytes } => {
-            begin(into, DriverWord::Buf.text(), name)?;
-            put_hex(into, bytes)
+            begin(into, DriverWord::Buf.text(), name, &[])?;
+            put_hex(into, bytes.as_slice())
         }
-        DriverStep::Zeros { len } => {
-            begin(into, DriverWord::Zeros.text(), name)?;
-            put_number(into, *len)
-        }
-        DriverStep::Free { buffer } => {
-            begin(into, DriverWord::Free.text(), name)?;
-            put_number(into, *buffer)
-        }
+        DriverStep::Zeros { len } => begin(into, DriverWord::Zeros.text(), name, &[*len]),
+        DriverStep::Free { buffer } => begin(into, DriverWord::Free.text(), name, &[*buffer]),
         DriverStep::Poke {
             buffer,
             offset,
             bytes,
         } => {
-            begin(into, DriverWord::Poke.text(), name)?;
-            put_number(into, *buffer)?;
-            put_number(into, *offset)?;
-            put_hex(into, bytes)
+            begin(into, DriverWord::Poke.text(), name, &[*buffer, *offset])?;
+            put_hex(into, bytes.as_slice())
         }
         DriverStep::Peek {
             buffer,
             offset,
             len,
-        } => {
-            begin(into, DriverWord::Peek.text(), name)?;
-            put_number(into, *buffer)?;
-            put_number(into, *offset)?;
-            put_number(into, *len)
-        }
+        } => begin(
+            into,
+            DriverWord::Peek.text(),
+            name,
+            &[*buffer, *offset, *len],
+        ),
         DriverStep::Map {
             buffer,
             offset,
             len,
             dir,
         } => {
-            begin(into, DriverWord::Map.text(), name)?;
-            put_number(into, *buffer)?;
-            put_number(into, *offset)?;
-            put_number(into, *len)?;
+            begin(
+                into,
+                DriverWord::Map.text(),
+                name,
+                &[*buffer, *offset, *len],
+            )?;
             put_dir(into, *dir)
         }
-        DriverStep::Unmap { mapping } => {
-            begin(into, DriverWord::Unmap.text(), name)?;
-            put_number(into, *mapping)
-        }
-        DriverStep::SyncDev { mapping } => {
-            begin(into, DriverWord::SyncDev.text(), name)?;
-            put_number(into, *mapping)
-        }
-        DriverStep::SyncCpu { mapping } => {
-            begin(into, DriverWord::SyncCpu.text(), name)?;
-            put_number(into, *mapping)
-        }
-        DriverStep::Coherent { len } => {
-            begin(into, DriverWord::Coherent.text(), name)?;
-            put_number(into, *len)
-        }
-        DriverStep::FreeCoherent { region } => {
-            begin(into, DriverWord::FreeCoherent.text(), name)?;
-            put_number(into, *region)
-        }
+        DriverStep::Unmap { mapping } => begin(into, DriverWord::Unmap.text(), name, &[*mapping]),
+        DriverStep::SyncDev { mapping } => begin(
+            into,
+            DriverWord::SyncDev.text(),
+            name,
+            &[*mapping],
+        ),
+        DriverStep::SyncCpu { mapping } => begin(
+            into,
+            DriverWord::SyncCpu.text(),
+            name,
+            &[*mapping],
+        ),
+        DriverStep::Coherent { len } => begin(into, DriverWord::Coherent.text(), name, &[*len]),
+        DriverStep::FreeCoherent { region } => begin(
+            into,
+            DriverWord::FreeCoherent.text(),
+            name,
+            &[*region],
+        ),
         DriverStep::Cput {
             region,
             offset,
             bytes,
         } => {
-            begin(into, DriverWord::Cput.text(), name)?;
-            put_number(into, *region)?;
-            put_number(into, *offset)?;
-            put_hex(into, bytes)
+            begin(into, DriverWord::Cput.text(), name, &[*region, *offset])?;
+            put_hex(into, bytes.as_slice())
         }
         DriverStep::Cget {
             region,
             offset,
             len,
-        } => {
-            begin(into, DriverWord::Cget.text(), name)?;
-            put_number(into, *region)?;
-            put_number(into, *offset)?;
-            put_number(into, *len)
-        }
+        } => begin(
+            into,
+            DriverWord::Cget.text(),
+            name,
+            &[*region, *offset, *len],
+        ),
     }
 }

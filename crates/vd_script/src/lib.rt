@@ -9,6 +9,7 @@
 mod area;
 mod bus;
 mod control;
+mod decode;
 mod digits;
 mod driver;
 mod error;

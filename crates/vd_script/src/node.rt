@@ -7,17 +7,17 @@ ghost use Rattle.vd_model.specs.NodeLines.{node_form, node_text};
 ghost use Rattle.vd_model.specs.Spelling.{with_name};
 
 use crate::error::LineError;
-use crate::put::{begin, put_flag, put_hex, put_number, put_optional_hex};
+use crate::put::{begin, put_flag, put_hex, put_optional_hex};
 use crate::words::Words;
-use std::alloc::{AllocError, Global};
-use vd_model::{Bytes, Name, NodeStep, NodeWord};
+use std::alloc::AllocError;
+use vd_model::{Bytes, NodeStep, NodeWord, Text};
 
 /// The step that the words behind the first word and the name say.
-pub fn node_step(
-    alloc: Global,
+pub fn node_step<'a>(
+    scratch: &'a mut Vec<u8>,
     word: NodeWord,
-    words: &mut Words<'_>,
-) -> Result<NodeStep, LineError>
+    words: &mut Words<'a>,
+) -> Result<NodeStep<'a>, LineError>
     ensures { Gives result (node_form word words.old) }
 {
     match word {
@@ -27,7 +27,7 @@ pub fn node_step(
         NodeWord::SetConfig => {
             let step = NodeStep::SetConfig {
                 offset: words.u64()?,
-                bytes: words.hex(alloc)?,
+                bytes: words.hex(scratch)?,
             };
             words.done(step)
         }
@@ -79,14 +79,14 @@ pub fn node_step(
         }
         NodeWord::Write => {
             let step = NodeStep::Write {
-                bytes: words.hex(alloc)?,
+                bytes: words.hex(scratch)?,
             };
             words.done(step)
         }
         NodeWord::Ioctl => {
             let step = NodeStep::Ioctl {
                 number: words.u64()?,
-                bytes: words.optional_hex(alloc)?,
+                bytes: words.optional_hex(scratch)?,
             };
             words.done(step)
         }
@@ -94,59 +94,55 @@ pub fn node_step(
 }
 
 /// Appends the step's line.
-pub fn print_node(name: &Name, step: &NodeStep, into: &mut Bytes) -> Result<(), AllocError>
+pub fn print_node(name: &Text<'_>, step: &NodeStep<'_>, into: &mut Bytes) -> Result<(), AllocError>
     ensures { OnOk result (into.new ≡ into.old ++ join_with_byte 32 (with_name name.now (node_text step.now))) }
 {
     match step {
-        NodeStep::Open => begin(into, NodeWord::Open.text(), name),
-        NodeStep::Close => begin(into, NodeWord::Close.text(), name),
-        NodeStep::Features => begin(into, NodeWord::Features.text(), name),
+        NodeStep::Open => begin(into, NodeWord::Open.text(), name, &[]),
+        NodeStep::Close => begin(into, NodeWord::Close.text(), name, &[]),
+        NodeStep::Features => begin(into, NodeWord::Features.text(), name, &[]),
         NodeStep::SetConfig { offset, bytes } => {
-            begin(into, NodeWord::SetConfig.text(), name)?;
-            put_number(into, *offset)?;
-            put_hex(into, bytes)
+            begin(into, NodeWord::SetConfig.text(), name, &[*offset])?;
+            put_hex(into, bytes.as_slice())
         }
-        NodeStep::ConfigIrq => begin(into, NodeWord::ConfigIrq.text(), name),
-        NodeStep::VqSetup { queue, max } => {
-            begin(into, NodeWord::VqSetup.text(), name)?;
-            put_number(into, u64::from(*queue))?;
-            put_number(into, u64::from(*max))
-        }
-        NodeStep::VqInfo { queue } => {
-            begin(into, NodeWord::VqInfo.text(), name)?;
-            put_number(into, u64::from(*queue))
-        }
+        NodeStep::ConfigIrq => begin(into, NodeWord::ConfigIrq.text(), name, &[]),
+        NodeStep::VqSetup { queue, max } => begin(
+            into,
+            NodeWord::VqSetup.text(),
+            name,
+            &[u64::from(*queue), u64::from(*max)],
+        ),
+        NodeStep::VqInfo { queue } => begin(
+            into,
+            NodeWord::VqInfo.text(),
+            name,
+            &[u64::from(*queue)],
+        ),
         NodeStep::KickFd { queue, flag } => {
-            begin(into, NodeWord::KickFd.text(), name)?;
-            put_number(into, u64::from(*queue))?;
+            begin(into, NodeWord::KickFd.text(), name, &[u64::from(*queue)])?;
             put_flag(into, *flag)
         }
-        NodeStep::Kicks { queue } => {
-            begin(into, NodeWord::Kicks.text(), name)?;
-            put_number(into, u64::from(*queue))
-        }
-        NodeStep::Irq { queue } => {
-            begin(into, NodeWord::Irq.text(), name)?;
-            put_number(into, u64::from(*queue))
-        }
-        NodeStep::Recv => begin(into, NodeWord::Recv.text(), name),
-        NodeStep::Answer { id, reply, avail } => {
-            begin(into, NodeWord::Answer.text(), name)?;
-            put_number(into, u64::from(*id))?;
-            put_number(into, u64::from(*reply))?;
-            put_number(into, u64::from(*avail))
-        }
-        NodeStep::Read { len } => {
-            begin(into, NodeWord::Read.text(), name)?;
-            put_number(into, u64::from(*len))
-        }
+        NodeStep::Kicks { queue } => begin(
+            into,
+            NodeWord::Kicks.text(),
+            name,
+            &[u64::from(*queue)],
+        ),
+        NodeStep::Irq { queue } => begin(into, NodeWord::Irq.text(), name, &[u64::from(*queue)]),
+        NodeStep::Recv => begin(into, NodeWord::Recv.text(), name, &[]),
+        NodeStep::Answer { id, reply, avail } => begin(
+            into,
+            NodeWord::Answer.text(),
+            name,
+            &[u64::from(*id), u64::from(*reply), u64::from(*avail)],
+        ),
+        NodeStep::Read { len } => begin(into, NodeWord::Read.text(), name, &[u64::from(*len)]),
         NodeStep::Write { bytes } => {
-            begin(into, NodeWord::Write.text(), name)?;
-            put_hex(into, bytes)
+            begin(into, NodeWord::Write.text(), name, &[])?;
+            put_hex(into, bytes.as_slice())
         }
         NodeStep::Ioctl { number, bytes } => {
-            begin(into, NodeWord::Ioctl.text(), name)?;
-            put_number(into, *number)?;
+            begin(into, NodeWord::Ioctl.text(), name, &[*number])?;
             put_optional_hex(into, bytes)
         }
     }

@@ -1,13 +1,14 @@
 //! The words of a line, each written behind a space.
 
 ghost use Rattle.std.specs.Prelude.{◌≡◌, ◌∷◌, ◌++◌, decimal, map, OnOk};
+ghost use Rattle.std.specs.List.{join_with_byte};
 ghost use Rattle.hex.specs.Hex.{encode_lower};
 ghost use Rattle.vd_model.specs.Text.{flag_text, dir_text, on_text, optional_hex_text, part_text, submit_text, behind};
 
 use crate::digits::put_bytes;
 use itoa::Buffer;
 use std::alloc::AllocError;
-use vd_model::{Bytes, Dir, Name, Part, Parts, QueueOrConfig, SubmitForm};
+use vd_model::{Bytes, Dir, Part, Parts, QueueOrConfig, SubmitForm, Text};
 
 /// A space and a word.
 pub fn put_word(into: &mut Bytes, word: &[u8]) -> Result<(), AllocError>
@@ -18,18 +19,10 @@ pub fn put_word(into: &mut Bytes, word: &[u8]) -> Result<(), AllocError>
 }
 
 /// A space and a name.
-pub fn put_name(into: &mut Bytes, name: &Name) -> Result<(), AllocError>
+pub fn put_name(into: &mut Bytes, name: &Text<'_>) -> Result<(), AllocError>
     ensures { OnOk result (into.new ≡ into.old ++ 32 ∷ name.now) }
 {
     put_word(into, name.as_slice())
-}
-
-/// The first word of a line and the device's name.
-pub fn begin(into: &mut Bytes, first: &[u8], device: &Name) -> Result<(), AllocError>
-    ensures { OnOk result (into.new ≡ into.old ++ (first.now ++ 32 ∷ device.now)) }
-{
-    into.extend_from_slice(first)?;
-    put_name(into, device)
 }
 
 /// A number in decimal, with no space.
@@ -48,6 +41,30 @@ pub fn put_number(into: &mut Bytes, number: u64) -> Result<(), AllocError>
     put_word(into, buffer.format(number).as_bytes())
 }
 
+/// Numbers in decimal, each behind a space.
+fn put_numbers(into: &mut Bytes, numbers: &[u64]) -> Result<(), AllocError>
+    ensures { OnOk result (into.new ≡ into.old ++ behind 32 (map decimal numbers.now)) }
+{
+    for number in numbers {
+        put_number(into, *number)?;
+    }
+    Ok(())
+}
+
+/// The first word of a line, the device's name and numbers.
+pub fn begin(
+    into: &mut Bytes,
+    first: &[u8],
+    device: &Text<'_>,
+    numbers: &[u64],
+) -> Result<(), AllocError>
+    ensures { OnOk result (into.new ≡ into.old ++ join_with_byte 32 (first.now ∷ device.now ∷ map decimal numbers.now)) }
+{
+    into.extend_from_slice(first)?;
+    put_name(into, device)?;
+    put_numbers(into, numbers)
+}
+
 /// Two numbers, each behind a space.
 pub fn put_two(into: &mut Bytes, first: u64, second: u64) -> Result<(), AllocError>
     ensures { OnOk result (into.new ≡ into.old ++ ((32 ∷ decimal first) ++ (32 ∷ decimal second))) }
@@ -57,20 +74,20 @@ pub fn put_two(into: &mut Bytes, first: u64, second: u64) -> Result<(), AllocErr
 }
 
 /// A space, and two lower-case digits for each byte.
-pub fn put_hex(into: &mut Bytes, bytes: &Bytes) -> Result<(), AllocError>
+pub fn put_hex(into: &mut Bytes, bytes: &[u8]) -> Result<(), AllocError>
     ensures { OnOk result (into.new ≡ into.old ++ 32 ∷ encode_lower bytes.now) }
 {
     into.push(b' ')?;
-    put_bytes(into, bytes.as_slice())
+    put_bytes(into, bytes)
 }
 
 /// The same, or `-` for no bytes.
-pub fn put_optional_hex(into: &mut Bytes, bytes: &Bytes) -> Result<(), AllocError>
+pub fn put_optional_hex(into: &mut Bytes, bytes: &Text<'_>) -> Result<(), AllocError>
     ensures { OnOk result (into.new ≡ into.old ++ 32 ∷ optional_hex_text bytes.now) }
 {
     match bytes.as_slice() {
         [] => put_word(into, b"-"),
-        _ => put_hex(into, bytes),
+        _ => put_hex(into, bytes.as_slice()),
     }
 }
 
@@ -140,10 +157,7 @@ pub fn put_submit_form(into: &mut Bytes, form: &SubmitForm) -> Result<(), AllocE
             len,
         } => {
             put_word(into, b"read")?;
-            put_number(into, *sector)?;
-            put_number(into, *buffer)?;
-            put_number(into, *offset)?;
-            put_number(into, *len)
+            put_numbers(into, &[*sector, *buffer, *offset, *len])
         }
         SubmitForm::Write {
             sector,
@@ -152,16 +166,12 @@ pub fn put_submit_form(into: &mut Bytes, form: &SubmitForm) -> Result<(), AllocE
             len,
         } => {
             put_word(into, b"write")?;
-            put_number(into, *sector)?;
-            put_number(into, *buffer)?;
-            put_number(into, *offset)?;
-            put_number(into, *len)
+            put_numbers(into, &[*sector, *buffer, *offset, *len])
         }
         SubmitForm::Flush => put_word(into, b"flush"),
         SubmitForm::Id { buffer, offset } => {
             put_word(into, b"id")?;
-            put_number(into, *buffer)?;
-            put_number(into, *offset)
+            put_numbers(into, &[*buffer, *offset])
         }
     }
 }

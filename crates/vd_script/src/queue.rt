@@ -9,10 +9,10 @@ ghost use Rattle.vd_model.specs.Forms.{part_field, parts_form, submit_form};
 ghost use Rattle.vd_model.specs.declared.step.QueueStep.TheVariants.{Add, Submit};
 
 use crate::error::LineError;
-use crate::put::{begin, put_number, put_parts, put_submit_form};
+use crate::put::{begin, put_parts, put_submit_form};
 use crate::words::Words;
 use std::alloc::{AllocError, Global};
-use vd_model::{Bytes, Name, Part, Parts, QueueStep, QueueWord, SubmitForm};
+use vd_model::{Bytes, Part, Parts, QueueStep, QueueWord, SubmitForm, Text};
 
 fn part_of(word: &[u8]) -> Result<Part, LineError>
     ensures { Gives result (part_field word.now) }
@@ -147,67 +147,79 @@ pub fn queue_step(
     }
 }
 
-fn put_add(name: &Name, queue: u32, parts: &Parts, into: &mut Bytes) -> Result<(), AllocError>
+fn put_add(name: &Text<'_>, queue: u32, parts: &Parts, into: &mut Bytes) -> Result<(), AllocError>
     ensures { OnOk result (into.new ≡ into.old ++ join_with_byte 32 (with_name name.now (queue_text (Add queue parts.now)))) }
 {
-    begin(into, QueueWord::Add.text(), name)?;
-    put_number(into, u64::from(queue))?;
+    begin(into, QueueWord::Add.text(), name, &[u64::from(queue)])?;
     put_parts(into, parts)
 }
 
 fn put_submit(
-    name: &Name,
+    name: &Text<'_>,
     queue: u32,
     form: &SubmitForm,
     into: &mut Bytes,
 ) -> Result<(), AllocError>
     ensures { OnOk result (into.new ≡ into.old ++ join_with_byte 32 (with_name name.now (queue_text (Submit queue form.now)))) }
 {
-    begin(into, QueueWord::Submit.text(), name)?;
-    put_number(into, u64::from(queue))?;
+    begin(into, QueueWord::Submit.text(), name, &[u64::from(queue)])?;
     put_submit_form(into, form)
 }
 
 /// Appends the step's line.
-pub fn print_queue(name: &Name, step: &QueueStep, into: &mut Bytes) -> Result<(), AllocError>
+pub fn print_queue(name: &Text<'_>, step: &QueueStep, into: &mut Bytes) -> Result<(), AllocError>
     ensures { OnOk result (into.new ≡ into.old ++ join_with_byte 32 (with_name name.now (queue_text step.now))) }
 {
     match step {
-        QueueStep::Walk { queue, head } => {
-            begin(into, QueueWord::Walk.text(), name)?;
-            put_number(into, u64::from(*queue))?;
-            put_number(into, u64::from(*head))
-        }
-        QueueStep::Fetch { queue } => {
-            begin(into, QueueWord::Fetch.text(), name)?;
-            put_number(into, u64::from(*queue))
-        }
-        QueueStep::Execute { queue } => {
-            begin(into, QueueWord::Execute.text(), name)?;
-            put_number(into, u64::from(*queue))
-        }
-        QueueStep::Finish { queue } => {
-            begin(into, QueueWord::Finish.text(), name)?;
-            put_number(into, u64::from(*queue))
-        }
-        QueueStep::Ring { queue, size } => {
-            begin(into, QueueWord::Ring.text(), name)?;
-            put_number(into, u64::from(*queue))?;
-            put_number(into, *size)
-        }
-        QueueStep::Unring { queue } => {
-            begin(into, QueueWord::Unring.text(), name)?;
-            put_number(into, u64::from(*queue))
-        }
+        QueueStep::Walk { queue, head } => begin(
+            into,
+            QueueWord::Walk.text(),
+            name,
+            &[u64::from(*queue), u64::from(*head)],
+        ),
+        QueueStep::Fetch { queue } => begin(
+            into,
+            QueueWord::Fetch.text(),
+            name,
+            &[u64::from(*queue)],
+        ),
+        QueueStep::Execute { queue } => begin(
+            into,
+            QueueWord::Execute.text(),
+            name,
+            &[u64::from(*queue)],
+        ),
+        QueueStep::Finish { queue } => begin(
+            into,
+            QueueWord::Finish.text(),
+            name,
+            &[u64::from(*queue)],
+        ),
+        QueueStep::Ring { queue, size } => begin(
+            into,
+            QueueWord::Ring.text(),
+            name,
+            &[u64::from(*queue), *size],
+        ),
+        QueueStep::Unring { queue } => begin(
+            into,
+            QueueWord::Unring.text(),
+            name,
+            &[u64::from(*queue)],
+        ),
         QueueStep::Add { queue, parts } => put_add(name, *queue, parts, into),
-        QueueStep::Publish { queue } => {
-            begin(into, QueueWord::Publish.text(), name)?;
-            put_number(into, u64::from(*queue))
-        }
+        QueueStep::Publish { queue } => begin(
+            into,
+            QueueWord::Publish.text(),
+            name,
+            &[u64::from(*queue)],
+        ),
         QueueStep::Submit { queue, form } => put_submit(name, *queue, form, into),
-        QueueStep::Poll { queue } => {
-            begin(into, QueueWord::Poll.text(), name)?;
-            put_number(into, u64::from(*queue))
-        }
+        QueueStep::Poll { queue } => begin(
+            into,
+            QueueWord::Poll.text(),
+            name,
+            &[u64::from(*queue)],
+        ),
     }
 }

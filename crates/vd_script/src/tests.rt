@@ -1,10 +1,13 @@
+//! Lines, both ways.
+
 use super::*;
 use std::test::Fail;
 use vd_model::{Answer, Bytes, ChainFault, ChainKind, Errno, Item, Items, Tag};
 
 /// The line that is written of the step that this line says.
 fn rewritten(rt: &HostRuntime, line: &[u8]) -> Result<Option<Bytes>, LineError> {
-    let Some(step) = read_line(rt.alloc(), line)? else {
+    let mut scratch = Vec::new(rt.alloc());
+    let Some(step) = read_line(rt.alloc(), &mut scratch, line)? else {
         return Ok(None);
     };
     let mut text = Bytes::new(rt.alloc());
@@ -79,15 +82,22 @@ fn bad_lines(rt: HostRuntime) {
         b"add v 0",
         b"add v 0 r:0:4294967296",
     ];
+    let mut scratch = Vec::new(rt.alloc());
     for line in rows {
-        assert!(rt; matches!(read_line(rt.alloc(), line), Err(LineError::Bad)));
+        assert!(rt;
+            matches!(
+                read_line(rt.alloc(), &mut scratch, line),
+                Err(LineError::Bad)
+            )
+        );
     }
 }
 
 #[test]
 fn silent_lines(rt: HostRuntime) {
+    let mut scratch = Vec::new(rt.alloc());
     for line in [b"".as_slice(), b"# map".as_slice()] {
-        assert!(rt; matches!(read_line(rt.alloc(), line), Ok(None)));
+        assert!(rt; matches!(read_line(rt.alloc(), &mut scratch, line), Ok(None)));
     }
 }
 

@@ -6,12 +6,11 @@ ghost use Rattle.vd_model.specs.Fields.{is_name, is_name_byte, number_in, u64_fi
 ghost use Rattle.vd_script.specs.Gives.{Gives, Takes, Ends};
 ghost use Rattle.vd_model.specs.Forms.{cut_at};
 
+use crate::decode::decode;
 use crate::error::LineError;
 use crate::number::number_of;
-use hex::FromHexError;
-use std::alloc::Global;
 use std::marker::Model;
-use vd_model::{Bytes, Dir, Name, QueueOrConfig};
+use vd_model::{Dir, QueueOrConfig, Text};
 
 /// What is left of a text that is cut at each separator. Contracts see the words.
 #[derive(Drop)]
@@ -54,17 +53,13 @@ fn is_name(word: &[u8]) -> bool
     !word.is_empty() && word.len() <= 255 && has_name_bytes(word)
 }
 
-#[tactic(auto, unfolding(vd_model::specs::Fields::hex_field))]
-fn hex_of(alloc: Global, word: &[u8]) -> Result<Bytes, LineError>
+/// One byte or more, as two hexadecimal digits each, decoded into `scratch`.
+fn hex_of<'a>(scratch: &'a mut Vec<u8>, word: &[u8]) -> Result<Text<'a>, LineError>
     ensures { Gives result (hex_field word.now) }
 {
-    if word.is_empty() {
-        return Err(LineError::Bad);
-    }
-    match hex::decode(alloc, word) {
-        Ok(bytes) => Ok(Bytes::from_vec(bytes)),
-        Err(FromHexError::OutOfMemory) => Err(LineError::Memory),
-        Err(_) => Err(LineError::Bad),
+    match decode(word, scratch) {
+        Err(error) => Err(error),
+        Ok(()) => Ok(Text::new(scratch.as_slice())),
     }
 }
 
@@ -164,33 +159,33 @@ impl<'a> Words<'a> {
     }
 
     /// A device's name.
-    pub fn name(&mut self, alloc: Global) -> Result<Name, LineError>
+    pub fn name(&mut self) -> Result<Text<'a>, LineError>
         ensures { Takes name_field self.old result self.new }
     {
         let word = self.word()?;
         if !is_name(word) {
             return Err(LineError::Bad);
         }
-        Ok(Name::from_vec(Vec::from_slice(alloc, word)?))
+        Ok(Text::new(word))
     }
 
     /// One byte or more, as two hexadecimal digits each.
-    pub fn hex(&mut self, alloc: Global) -> Result<Bytes, LineError>
+    pub fn hex<'b>(&mut self, scratch: &'b mut Vec<u8>) -> Result<Text<'b>, LineError>
         ensures { Takes hex_field self.old result self.new }
     {
-        hex_of(alloc, self.word()?)
+        hex_of(scratch, self.word()?)
     }
 
     /// The same, or `-` for no bytes.
     #[tactic(auto, unfolding(vd_model::specs::Fields::optional_hex_field))]
-    pub fn optional_hex(&mut self, alloc: Global) -> Result<Bytes, LineError>
+    pub fn optional_hex<'b>(&mut self, scratch: &'b mut Vec<u8>) -> Result<Text<'b>, LineError>
         ensures { Takes optional_hex_field self.old result self.new }
     {
         let word = self.word()?;
         if word == b"-".as_slice() {
-            return Ok(Bytes::new(alloc));
+            return Ok(Text::new(&[]));
         }
-        hex_of(alloc, word)
+        hex_of(scratch, word)
     }
 
     /// `0` or `1`.

@@ -1,7 +1,7 @@
 use Rattle.std.proofs.Common.{subst, refl, ◌≡◌, Some}
 use Rattle.std.specs.List.{slice_get}
 use Rattle.std.proofs.lemmas.Option.{slice_get_read}
-use Rattle.vd_model.specs.Deeds.{seen}
+use Rattle.vd_model.specs.Deeds.{device_view}
 use Rattle.vd_engine.specs.Machine.{FirstIs, NoneIs}
 use Rattle.vd_engine.specs.Stands.{plain}
 use Rattle.vd_engine.proofs.Turns.{if_ok_more}
@@ -18,4 +18,4 @@ returns-in-Some-clause-ok c = λ x done s.
     let there : slice_get c.args.devices.now.items c.in-Some.place ≡ Some c.index_mut.result.now = slice_get_read _ _ c.in-Some.place _ refl first.within c.index_mut.ensures.value in
     let stands = found_stands x done _ c.args.name.now s c.in-Some.place _ first there in
     let made = found_made x done _ c.args.name.now s c.in-Some.place _ first there in
-    if_ok_more c.step.result (c.step.ensures.ok x made.0 (seen (plain x) c.args.name.now done) stands.1) (λ said t. step_results x done _ c.args.name.now s c.in-Some.place _ _ made.0 c.args.step.now said first there refl made.1 t)
+    if_ok_more c.step.result (c.step.ensures.ok x made.0 (device_view (plain x) c.args.name.now done) stands.1) (λ said t. step_results x done _ c.args.name.now s c.in-Some.place _ _ made.0 c.args.step.now said first there refl made.1 t)

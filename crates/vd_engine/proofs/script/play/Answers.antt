@@ -1,4 +1,4 @@
-use Rattle.std.proofs.Common.{◌≤◌, ◌+◌, ◌++◌, ◌∷◌, [], Ok, Err, true≢false, ap, subst, sym, ◌∙◌, arith, length}
+use Rattle.std.proofs.Common.{◌≤◌, ◌+◌, ◌++◌, ◌∷◌, [], Ok, Err, true≢false, refl, ap, subst, sym, ◌∙◌, arith, length}
 use Rattle.vd_lines.specs.Ahead.{Ahead}
 use Rattle.vd_lines.specs.IsAt.{IsNext, IsRead}
 use Rattle.vd_lines.proofs.Places.{at_first}
@@ -23,6 +23,7 @@ loop-reader-init g c =
       taken = omega (arith, taken);
       source = omega arith;
       sink = omega arith;
+      image = refl;
     }
 
 pub returns-in-Ok-End-clause-played : goal.returns-in-Ok-End-clause-played
@@ -129,4 +130,5 @@ loop-reader-preserved g c =
       taken = small;
       source = omega (arith, source, source_later);
       sink = omega (arith, sink, sink_later);
+      image = c.answer_onto-in-loop-reader.ensures.image ∙ c.loop-reader.invariant.image;
     }

@@ -13,6 +13,7 @@ invariant-loop-reader g l = record {
   taken : l.reader.taken ≤ 67108864;
   source : g.S.Source.faults l.fn.source ≤ g.S.Source.faults l.source;
   sink : g.K.Sink.faults l.fn.sink ≤ g.K.Sink.faults l.sink;
+  image : l.disk ≡ l.fn.disk;
 }
 
 abbrev pub decreases-loop-reader : goal.decreases-loop-reader

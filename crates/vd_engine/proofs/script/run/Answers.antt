@@ -33,6 +33,8 @@ returns-in-Ok-write g c =
       source_failed = λ three. c.play-played.ensures.source_failed (status_three c.play-played.result.stop (sym status ∙ three));
       sink_failed = λ four. absurd (c.in_default.not-SinkFailed (status_four c.play-played.result.stop (sym status ∙ four)));
       known = ap is_status status ∙ known_status c.play-played.result.stop;
+      no_line = e.ensures.no_line;
+      image = c.play-played.ensures.image;
       disk_failures = e.ensures.disk_failures;
     }
 
@@ -52,5 +54,7 @@ returns g c =
       source_failed = λ three. absurd (omega (arith, status, three));
       sink_failed = λ four. omega (arith, later, rose);
       known = ap is_status status ∙ known_status SinkFailed;
+      no_line = e.ensures.no_line;
+      image = c.play-played.ensures.image;
       disk_failures = e.ensures.disk_failures;
     }

@@ -2,7 +2,9 @@ use Rattle.std.proofs.Common.{◌≡◌, ◌≤◌, ◌∙◌, sym, ap, subst, S
 use Rattle.vd_engine.specs.Stands.{plain}
 use Rattle.vd_model.specs.Out.{good_lines, history_after}
 use Rattle.std.specs.Prelude.{[], take}
-use Rattle.vd_laws.proofs.All_of.{all_laws}
+use Rattle.vd_laws.proofs.AllLaws.{all_laws}
+use Rattle.vd_order_laws.proofs.OrderLaw.{order_law}
+use Rattle.vd_disk_laws.proofs.BlockLaw.{block_law}
 use Rattle.vd_engine.proofs.Conditions.{addressed, whole}
 use Rattle.vd_engine.proofs.Plays.{complete}
 use Rattle.vd_engine.proofs.top.script_top.Goals as goal
@@ -18,7 +20,8 @@ returns-in-Ok-clause-laws g c = λ sizes x text n asked iova told.
     let same : Some sizes ≡ Some (record { bounce = c.in-Ok.options.bounce_pages; iova = c.in-Ok.options.iova_pages }) = sym asked ∙ c.in-Ok.ensures.sizes_are in
     let small : x.iova ≤ 65536 = (let e : sizes ≡ record { bounce = c.in-Ok.options.bounce_pages; iova = c.in-Ok.options.iova_pages } = cc in
     subst (λ k. k ≤ 65536) (sym (iova ∙ ap (λ s. s.iova) e)) c.in-Ok.ensures.small) in
-    (addressed x small, whole x, all_laws (plain x) (history_after [] 1 [] (take n (good_lines text))))
+    let h = history_after [] 1 [] (take n (good_lines text)) in
+    (addressed x small, whole x, all_laws (plain x) h, record { order = order_law (plain x) h; block = block_law (plain x) h })
 
 pub returns-in-Err-clause-laws : goal.returns-in-Err-clause-laws
 returns-in-Err-clause-laws g c = λ sizes x text n asked iova told. grind arith

@@ -6,4 +6,4 @@ use Rattle.vd_script.proofs.queue.put_add.Goals as goal
 
 pub returns : goal.returns
 returns c = IfOk-equal c.put_parts.result _ _ _ c.put_parts.ensures
-    (more_words c.args.into.now _ c.put_number.new.into _ _ c.args.name.now _ _ (map part_text c.args.parts.now) c.text.ensures (ap decimal c.from.ensures) c.in_ok-begin.ensures c.in_ok-put_number.ensures)
+    (more_words c.args.into.now c.begin.new.into _ _ c.args.name.now _ _ (map part_text c.args.parts.now) c.text.ensures (ap decimal c.from.ensures) c.in_ok-begin.ensures)

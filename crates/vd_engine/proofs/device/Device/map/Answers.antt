@@ -3,7 +3,7 @@ use Rattle.vd_num.specs.Number.{pages_of}
 use Rattle.vd_model.specs.Acts.{Streaming}
 use Rattle.vd_engine.specs.Pages.{IsRange, Shown}
 use Rattle.vd_engine.proofs.Turns.{stands_inside, takes_seen}
-use Rattle.vd_engine.proofs.Maps.{map_full, map_takes, map_stands, live_more}
+use Rattle.vd_engine.proofs.Maps.{map_full, map_takes, map_stands, live_mappings_more}
 use Rattle.vd_engine.proofs.device.Device.map.Goals as goal
 
 pub returns-in-None-clause-ok : goal.returns-in-None-clause-ok
@@ -19,7 +19,7 @@ invariant_of-self-2 c =
     let shown : Shown m c.in-Ok.text.now c.self.inside.bounce c.show.new.self = subst (λ k. Shown k c.in-Ok.text.now c.self.inside.bounce c.show.new.self) c.new-mapping.ensures c.in_ok-show.ensures.shown in
     record {
       buffered = c.self.invariant.buffered;
-      live = live_more c.self.inside.buffers.items c.self.inside.bounce c.show.new.self c.self.inside.live.items c.push.new.self.items m c.in-Ok.text.now pushed c.self.invariant.live
+      live = live_mappings_more c.self.inside.buffers.items c.self.inside.bounce c.show.new.self c.self.inside.live.items c.push.new.self.items m c.in-Ok.text.now pushed c.self.invariant.live
           shown c.show.ensures.size (c.pages-2.ensures.bytes ∙ ap (λ n. 4096 * n) c.pages-2.ensures.count)
           (let small = c.pages-2.ensures.small in let count = c.pages-2.ensures.count in omega (arith, small, count))
           (subst (λ b. IsRange b c.args.want.buffer c.args.want.offset c.args.want.len c.in-Ok.text.now) c.deref.ensures.value c.in-Ok.ensures)

@@ -1,5 +1,5 @@
 use Rattle.std.proofs.Common.{◌≡◌, ◌∙◌, subst, length}
-use Rattle.vd_engine.specs.Replies.{Added}
+use Rattle.vd_engine.specs.Replies.{IsReplyAdded}
 use Rattle.vd_engine.proofs.Marks.{marked_more, added_more}
 use Rattle.vd_engine.proofs.waiting.Waiting.add.Goals as goal
 
@@ -11,5 +11,5 @@ invariant_of-self-in-Ok c =
 pub returns-in-Ok-clause-ok : goal.returns-in-Ok-clause-ok
 returns-in-Ok-clause-ok c =
     let stop : c.len.result ≡ length c.extend_from_slice.new.self.items = c.len.ensures ∙ c.extend_from_slice.new.self.ok.0 in
-    subst (λ old. Added c.args.reply.now c.args.before old (record { bytes = c.extend_from_slice.new.self.items; marks = c.push.new.self.items })) c.self.view_is
+    subst (λ old. IsReplyAdded c.args.reply.now c.args.before old (record { bytes = c.extend_from_slice.new.self.items; marks = c.push.new.self.items })) c.self.view_is
     (added_more _ c.self.invariant c.args.reply.now _ _ c.args.before c.len.result c.in_ok-extend_from_slice.ensures.items stop c.in-Ok.ensures.items)

@@ -30,7 +30,7 @@ returns-in-Err-clause-next g c = λ text done at.
     let kept = c.if-cut.ensures in
     let here : IsAt text done c.cut.new.self (g.S.Source.left c.loop-self.source) = subst (λ a. IsAt text done a (g.S.Source.left c.loop-self.source)) (sym kept.0) (c.loop-self.invariant.at text done at) in
     let one : IsOneLine c.cut.new.self.pending = subst (λ (a : Ahead). IsOneLine a.pending) (sym kept.0) kept.1 in
-    at_fault text done c.cut.new.self (g.S.Source.left c.loop-self.source) (g.S.Source.left c.fill.new.source) here c.fill.new.self c.in-Err.fault one c.in-Err.ensures.filled
+    at_fault text done c.cut.new.self (g.S.Source.left c.loop-self.source) (g.S.Source.left c.fill.new.source) here c.fill.new.self c.in-Err.fault one (omega arith) c.in-Err.ensures.filled
 
 pub returns-then-cut_last-clause-next : goal.returns-then-cut_last-clause-next
 returns-then-cut_last-clause-next g c = λ text done at.
