@@ -1,3 +1,5 @@
+//! The capacity of the config space.
+
 ghost use Rattle.std.specs.Prelude.{◌≡◌, ◌≤◌, ◌↔◌, IsSome, IfSome, length};
 ghost use Rattle.vd_num.specs.Field.{field_at};
 

@@ -1,3 +1,5 @@
+//! A request's header (virtio 1.2, section 5.2.6).
+
 ghost use Rattle.std.specs.Prelude.{◌≡◌, ◌↔◌, IsSome, IfSome, length};
 ghost use Rattle.blk_proto.specs.Headers.{header_bytes, IsAt, Fits};
 ghost use Rattle.blk_proto.specs.declared.header.Header.{Header};

@@ -1,3 +1,5 @@
+//! The numbers of request types and statuses (virtio 1.2, section 5.2.6).
+
 ghost use Rattle.std.specs.Prelude.{◌≡◌, IfSome};
 ghost use Rattle.blk_proto.specs.Numbers.{type_number, status_number};
 ghost use Rattle.blk_proto.specs.declared.number.BlkType.{BlkType};

@@ -1,3 +1,5 @@
+//! Headers, numbers and a capacity from outside vectors.
+
 use crate::{BlkStatus, BlkType, Header, capacity_of};
 
 #[test]

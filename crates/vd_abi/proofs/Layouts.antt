@@ -8,21 +8,22 @@ use Rattle.std.proofs.lemmas.List.Sums.{take_while-cons}
 use Rattle.std.proofs.lemmas.Slice.{take-put_mid_below, drop-put_mid}
 use Rattle.byteorder.specs.Numbers.{little_number-reads_back, little_from-take, length-bytes_low_first}
 use Rattle.byteorder.specs.Endian.{little_number, little_bytes}
-use Rattle.vd_abi.specs.Layout.{Field, number, text, rest, reserved, offset, size, with_bytes, with_written, laid_out, are_zero, before_zero, Shows, ShowsEach, Fits, FitsEach}
+use Rattle.vd_model.specs.Raw.{are_zero}
+use Rattle.vd_abi.specs.Layout.{StructField, number, text, rest, reserved, offset, size, with_bytes, with_written, laid_out, before_zero, Shows, ShowsEach, Fits, FitsEach}
 
 -- a field that has all bytes from its offset on has those up to this place
-abbrev pub Reaches : ℕ → Field → Type 0
+abbrev pub Reaches : ℕ → StructField → Type 0
 Reaches to (number at n value) = ⊤
 Reaches to (text at room chars) = ⊤
 Reaches to (rest at bytes) = at + length bytes ≡ to
 Reaches to (reserved at n) = ⊤
 
 -- the fields stand in ascending order, none over another, from a place on and up to a place
-abbrev pub InOrder : ℕ → ℕ → List Field → Type 0
+abbrev pub InOrder : ℕ → ℕ → List StructField → Type 0
 InOrder from to [] = from ≤ to
 InOrder from to (f ∷ fs) = (from ≤ offset f) × Reaches to f × InOrder (offset f + size f) to fs
 
-in_order_le : (fs : List Field) (from to : ℕ) → InOrder from to fs → from ≤ to
+in_order_le : (fs : List StructField) (from to : ℕ) → InOrder from to fs → from ≤ to
 in_order_le [] from to order = order
 in_order_le (f ∷ fs) from to order =
     let later = in_order_le fs (offset f + size f) to order.2 in omega (arith, order.0)
@@ -75,13 +76,13 @@ text-read (c ∷ chars) behind (suc m) all z le =
     ∙ ap (λ (t : List ℕ). c ∷ t) others
 
 -- the bytes of a field that aren't zeros
-written : Field → List ℕ
+written : StructField → List ℕ
 written (number at n value) = little_bytes n value
 written (text at room chars) = chars
 written (rest at bytes) = bytes
 written (reserved at n) = []
 
-written-is : (f : Field) (xs : List ℕ) → with_written xs f ≡ with_bytes xs (offset f) (written f)
+written-is : (f : StructField) (xs : List ℕ) → with_written xs f ≡ with_bytes xs (offset f) (written f)
 unfolding written
 written-is (number at n value) xs =
     ap (λ (k : ℕ). take at xs ++ (little_bytes n value ++ drop k (drop at xs))) (sym (length-bytes_low_first 0 n value))
@@ -89,7 +90,7 @@ written-is (text at room chars) xs = refl
 written-is (rest at bytes) xs = refl
 written-is (reserved at n) xs = sym (take-append-drop at xs)
 
-written-le : (f : Field) → Fits f → length (written f) ≤ size f
+written-le : (f : StructField) → Fits f → length (written f) ≤ size f
 unfolding written
 written-le (number at n value) fits = let e = length-bytes_low_first 0 n value in omega (arith, e)
 written-le (text at room chars) fits = let e = fits.ends in omega arith
@@ -110,7 +111,7 @@ slice-is xs at n =
     let e : at + n - at ≡ n = omega arith in ap (λ (k : ℕ). take k (drop at xs)) e
 
 -- a field that was written into zeros is read again
-shows-written : (f : Field) (xs : List ℕ) → Fits f → offset f + size f ≤ length xs → Reaches (length xs) f → AreZeros (drop (offset f) xs) → Shows (with_bytes xs (offset f) (written f)) f
+shows-written : (f : StructField) (xs : List ℕ) → Fits f → offset f + size f ≤ length xs → Reaches (length xs) f → AreZeros (drop (offset f) xs) → Shows (with_bytes xs (offset f) (written f)) f
 unfolding written
 shows-written (number at n value) xs fits le reaches z =
     sym
@@ -144,7 +145,7 @@ same_front : (m n : ℕ) (xs ys : List ℕ) → m ≤ n → take n xs ≡ take n
 same_front m n xs ys le e = sym (take-take m n xs le) ∙ ap (take m) e ∙ take-take m n ys le
 
 -- a field is read the same where nothing changed up to its end
-shows-same : (f : Field) (xs ys : List ℕ) → Fits f → Reaches (length xs) f → length ys ≡ length xs → take (offset f + size f) xs ≡ take (offset f + size f) ys → Shows xs f → Shows ys f
+shows-same : (f : StructField) (xs ys : List ℕ) → Fits f → Reaches (length xs) f → length ys ≡ length xs → take (offset f + size f) xs ≡ take (offset f + size f) ys → Shows xs f → Shows ys f
 shows-same (number at n value) xs ys fits reaches len e shows =
     shows
     ∙ sym (little_from-take 0 n n (drop at xs) (omega arith))
@@ -160,12 +161,12 @@ shows-same (reserved at n) xs ys fits reaches len e shows = sym (ap are_zero (sa
 
 -- after all fields were written: the front before them is as it was, each is read, and the length is
 -- the same
-record Laid (fs : List Field) (from : ℕ) (xs ys : List ℕ) : Type 0 where
+record Laid (fs : List StructField) (from : ℕ) (xs ys : List ℕ) : Type 0 where
   front : take from ys ≡ take from xs
   each : ShowsEach ys fs
   len : length ys ≡ length xs
 
-laid : (fs : List Field) (from : ℕ) (xs : List ℕ) → InOrder from (length xs) fs → FitsEach fs → AreZeros (drop from xs) → Laid fs from xs (fold with_written xs fs)
+laid : (fs : List StructField) (from : ℕ) (xs : List ℕ) → InOrder from (length xs) fs → FitsEach fs → AreZeros (drop from xs) → Laid fs from xs (fold with_written xs fs)
 laid [] from xs order fits z = record { front = refl; each = tt; len = refl }
 laid (f ∷ fs) from xs order fits z =
     let at = offset f in
@@ -193,18 +194,18 @@ laid (f ∷ fs) from xs order fits z =
     } in
     subst (λ (V : List ℕ). Laid (f ∷ fs) from xs (fold with_written V fs)) (sym (written-is f xs)) done
 
-from_zeros : (len : ℕ) (fs : List Field) → InOrder 0 len fs → FitsEach fs → Laid fs 0 (replicate len 0) (laid_out len fs)
+from_zeros : (len : ℕ) (fs : List StructField) → InOrder 0 len fs → FitsEach fs → Laid fs 0 (replicate len 0) (laid_out len fs)
 unfolding laid_out
 from_zeros len fs order fits =
     laid fs 0 (replicate len 0) (subst (λ (n : ℕ). InOrder 0 n fs) (sym (length-replicate len 0)) order) fits (zeros len)
 
 -- each field of a struct that was laid out is read again
-pub shows-laid_out : (bytes : List ℕ) (len : ℕ) (fs : List Field) → InOrder 0 len fs → FitsEach fs → bytes ≡ laid_out len fs → ShowsEach bytes fs
+pub shows-laid_out : (bytes : List ℕ) (len : ℕ) (fs : List StructField) → InOrder 0 len fs → FitsEach fs → bytes ≡ laid_out len fs → ShowsEach bytes fs
 shows-laid_out bytes len fs order fits is =
     subst (λ (xs : List ℕ). ShowsEach xs fs) (sym is) (from_zeros len fs order fits).each
 
 -- a struct that was laid out has its length
-pub length-laid_out : (bytes : List ℕ) (len : ℕ) (fs : List Field) → InOrder 0 len fs → FitsEach fs → bytes ≡ laid_out len fs → length bytes ≡ len
+pub length-laid_out : (bytes : List ℕ) (len : ℕ) (fs : List StructField) → InOrder 0 len fs → FitsEach fs → bytes ≡ laid_out len fs → length bytes ≡ len
 length-laid_out bytes len fs order fits is =
     ap length is ∙ (from_zeros len fs order fits).len ∙ length-replicate len 0
 

@@ -1,7 +1,10 @@
+//! Names and reserved bytes in a struct.
+
 ghost use Rattle.std.specs.Prelude.{◌≡◌, ◌+◌, ◌≤◌, ◌==◌, IfOk, length, drop, replicate, slice_range};
 ghost use Rattle.std.specs.List.{position, position_or_len};
 ghost use Rattle.vd_num.specs.Field.{field_at, with_field};
-ghost use Rattle.vd_abi.specs.Layout.{IsText, are_zero, before_zero, with_bytes};
+ghost use Rattle.vd_model.specs.Raw.{are_zero};
+ghost use Rattle.vd_abi.specs.Layout.{IsText, before_zero, with_bytes};
 
 use std::alloc::{AllocError, Global};
 use vd_num::{Bytes, Name};

@@ -1,7 +1,8 @@
 // What is passed to a device's node, `/dev/vduse/NAME`, to set the device up.
 ghost use Rattle.std.specs.Prelude.{◌≡◌, ◌+◌, false, IfSome, IfOk, is_some, length};
 ghost use Rattle.vd_abi.specs.Layout.{ShowsEach, FitsEach, laid_out};
-ghost use Rattle.vd_abi.specs.Structs.{config_data, is_config_data, vq_config, is_vq_config};
+ghost use Rattle.vd_model.specs.Raw.{is_config_data};
+ghost use Rattle.vd_abi.specs.Structs.{config_data, vq_config, is_vq_config};
 ghost use Rattle.vd_abi.specs.declared.device.ConfigData.{ConfigData};
 ghost use Rattle.vd_abi.specs.declared.device.VqConfig.{VqConfig};
 

@@ -1,3 +1,5 @@
+//! Structs from outside vectors.
+
 use crate::{ApiVersion, ConfigData, DevConfig, DevName, Request, Response, VqConfig};
 use std::test::Fail;
 use vd_num::{Bytes, Name};

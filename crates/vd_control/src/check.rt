@@ -1,6 +1,9 @@
+//! What a device may be made with.
+
 ghost use Rattle.std.specs.Prelude.{◌≡◌, ◌<◌, ◌↔◌, IsTrue, IsOk, not};
 ghost use Rattle.std.specs.List.{list_all};
-ghost use Rattle.vd_model.specs.ControlTurns.{is_bad_name, is_bad_config, is_name_byte};
+ghost use Rattle.vd_model.specs.ControlTurns.{is_bad_name, is_bad_config};
+ghost use Rattle.vd_model.specs.Fields.{is_name_byte};
 ghost use Rattle.vd_model.specs.Creation.{has_feature};
 ghost use Rattle.vd_control.specs.Checks.{is_refused};
 

@@ -1,7 +1,8 @@
-ghost use Rattle.std.specs.Prelude.{◌≡◌, ◌+◌, ◌≤◌, ◌↔◌, ℕ, List, IsTrue, OnOk, OnErr, not, length, slice_range};
+//! The config space of a device.
+
+ghost use Rattle.std.specs.Prelude.{◌≡◌, ◌+◌, ◌≤◌, ◌↔◌, ℕ, List, IsTrue, IfOk, OnOk, OnErr, not, length, slice_range};
 ghost use Rattle.std.specs.Result.{IsOkUnless};
-ghost use Rattle.vd_model.specs.BusTurns.{overlaid};
-ghost use Rattle.vd_control.specs.Space.{is_outside};
+ghost use Rattle.vd_model.specs.BusTurns.{is_outside_config, overlay};
 
 use std::marker::Model;
 use vd_num::{Bytes, Errno};
@@ -19,15 +20,16 @@ impl Model for ConfigSpace {
 }
 
 /// Whether an access has no byte, or some outside a space of `size` bytes.
-fn is_outside(size: usize, offset: u32, len: usize) -> bool
-    ensures { (space : List ℕ) → length space ≡ size → result ≡ is_outside space offset len }
+fn is_outside(size: usize, offset: u64, len: u64) -> bool
+    ensures { (space : List ℕ) → length space ≡ size → result ≡ is_outside_config space offset len }
 {
-    len == 0 || len > size || offset as usize > size - len
+    let size = size as u64;
+    len == 0 || len > size || offset > size - len
 }
 
 fn put(into: &mut [u8], at: usize, bytes: &[u8])
     requires { at + length bytes.now ≤ length into.old }
-    ensures { into.new ≡ overlaid into.old at bytes.now }
+    ensures { into.new ≡ overlay into.old at bytes.now }
 {
     into[at..at + bytes.len()].copy_from_slice(bytes);
 }
@@ -42,14 +44,27 @@ impl ConfigSpace {
         }
     }
 
+    /// So many bytes from `offset` on.
+    pub fn get(&self, offset: u64, len: u64) -> Result<&[u8], Errno>
+        ensures refused { (result ≡ Err Errno.Inval) ↔ IsTrue (is_outside_config self.now offset len) }
+        ensures only { IsOkUnless result Errno.Inval }
+        ensures ok { IfOk result (λ bytes. bytes.now ≡ slice_range self.now offset (offset + len)) }
+    {
+        if is_outside(self.held.len(), offset, len) {
+            return Err(Errno::Inval);
+        }
+        let at = offset as usize;
+        Ok(&self.held[at..at + len as usize])
+    }
+
     /// Fills `out` with the bytes from `offset` on.
-    pub fn read(&self, offset: u32, out: &mut [u8]) -> Result<(), Errno>
-        ensures refused { (result ≡ Err Errno.Inval) ↔ IsTrue (is_outside self.now offset (length out.old)) }
+    pub fn read(&self, offset: u64, out: &mut [u8]) -> Result<(), Errno>
+        ensures refused { (result ≡ Err Errno.Inval) ↔ IsTrue (is_outside_config self.now offset (length out.old)) }
         ensures only { IsOkUnless result Errno.Inval }
         ensures ok { OnOk result (out.new ≡ slice_range self.now offset (offset + length out.old)) }
         ensures err { OnErr result (out.new ≡ out.old) }
     {
-        if is_outside(self.held.len(), offset, out.len()) {
+        if is_outside(self.held.len(), offset, out.len() as u64) {
             return Err(Errno::Inval);
         }
         let at = offset as usize;
@@ -58,13 +73,13 @@ impl ConfigSpace {
     }
 
     /// Puts `bytes` in place of those from `offset` on.
-    pub fn write(&mut self, offset: u32, bytes: &[u8]) -> Result<(), Errno>
-        ensures refused { (result ≡ Err Errno.Inval) ↔ IsTrue (is_outside self.old offset (length bytes.now)) }
+    pub fn write(&mut self, offset: u64, bytes: &[u8]) -> Result<(), Errno>
+        ensures refused { (result ≡ Err Errno.Inval) ↔ IsTrue (is_outside_config self.old offset (length bytes.now)) }
         ensures only { IsOkUnless result Errno.Inval }
-        ensures ok { OnOk result (self.new ≡ overlaid self.old offset bytes.now) }
+        ensures ok { OnOk result (self.new ≡ overlay self.old offset bytes.now) }
         ensures err { OnErr result (self.new ≡ self.old) }
     {
-        if is_outside(self.held.len(), offset, bytes.len()) {
+        if is_outside(self.held.len(), offset, bytes.len() as u64) {
             return Err(Errno::Inval);
         }
         put(self.held.as_mut_slice(), offset as usize, bytes);

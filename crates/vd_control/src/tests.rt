@@ -1,3 +1,5 @@
+//! Configs that are refused, and a config space.
+
 use crate::{ConfigSpace, check_config, check_version};
 use std::alloc::{AllocError, Global};
 use std::test::Fail;

@@ -20,8 +20,8 @@ is_listed fails None = false
 is_listed fails (Some number) = list_any (λ n. n == number) fails
 
 -- the next call is to fail
-abbrev pub is_due : Calls → Bool
-is_due calls = is_listed calls.fails calls.next
+abbrev pub is_to_fail : Calls → Bool
+is_to_fail calls = is_listed calls.fails calls.next
 
 -- the number after this one
 abbrev pub number_after : Option ℕ → Option ℕ

@@ -1,6 +1,6 @@
 -- What contracts see of the forms in memory.
 use Rattle.std.specs.Prelude.{ℕ, ◌-◌, List, length, Bool, ◌==◌, ◌||◌}
-use Rattle.vd_io.specs.Faults.{Calls, is_due}
+use Rattle.vd_io.specs.Faults.{Calls, is_to_fail}
 
 -- a source: the bytes that are left
 pub record Text : Type 0 where
@@ -15,7 +15,7 @@ pub record Held : Type 0 where
 
 -- the next push fails: no room is left, or it is to fail
 abbrev pub is_refused : Held → Bool
-is_refused sink = ((sink.room - length sink.bytes) == 0) || is_due sink.calls
+is_refused sink = ((sink.room - length sink.bytes) == 0) || is_to_fail sink.calls
 
 -- an image: its sectors, its bytes, and how often it was flushed
 pub record Medium : Type 0 where

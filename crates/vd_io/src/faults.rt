@@ -1,6 +1,8 @@
+//! The calls that are to fail.
+
 ghost use Rattle.std.specs.Prelude.{◌≡◌, ◌≤◌, ◌||◌, Some, true};
 ghost use Rattle.vd_io.specs.Told.{Rose};
-ghost use Rattle.vd_io.specs.Faults.{is_due, after_call};
+ghost use Rattle.vd_io.specs.Faults.{is_to_fail, after_call};
 
 use std::marker::Model;
 use vd_num::Lines;
@@ -35,8 +37,8 @@ impl Faults {
 
     /// Counts one call more, and answers whether it fails: where it is refused anyway, or listed.
     pub fn call(&mut self, is_refused: bool) -> bool
-        ensures fails { result ≡ (is_refused || is_due self.old) }
-        ensures counted { self.new ≡ after_call (is_refused || is_due self.old) self.old }
+        ensures fails { result ≡ (is_refused || is_to_fail self.old) }
+        ensures counted { self.new ≡ after_call (is_refused || is_to_fail self.old) self.old }
         ensures never_falls { self.old.failed ≤ self.new.failed }
         ensures rose { result ≡ true → Rose self.old.failed self.new.failed }
     {

@@ -1,7 +1,9 @@
+//! Images of sectors.
+
 ghost use Rattle.std.specs.Prelude.{◌≡◌, ◌≤◌, ◌*◌, ◌↔◌, ℕ, List, Option, Some, Result, IfOk, IsErr, IsTrue, OnOk, OnErr, length, replicate};
 ghost use Rattle.vd_io.specs.Told.{HasCause, Rose};
 ghost use Rattle.vd_io.specs.Sectors.{IsSpan, IsRead, IsWritten};
-ghost use Rattle.vd_io.specs.Faults.{Calls, is_due, after_call, first_call};
+ghost use Rattle.vd_io.specs.Faults.{Calls, is_to_fail, after_call, first_call};
 ghost use Rattle.vd_io.specs.Memory.{Medium};
 
 use crate::Failed;
@@ -131,8 +133,8 @@ impl Image for MemImage {
         ensures cause { HasCause self.old.calls.failed self.new.calls.failed result }
 
         // It fails exactly where the call's number is listed.
-        ensures failed { IsErr result ↔ IsTrue (is_due self.old.calls) }
-        ensures counted { self.new.calls ≡ after_call (is_due self.old.calls) self.old.calls }
+        ensures failed { IsErr result ↔ IsTrue (is_to_fail self.old.calls) }
+        ensures counted { self.new.calls ≡ after_call (is_to_fail self.old.calls) self.old.calls }
     {
         if self.faults.call(false) {
             return Err(Failed);
@@ -151,8 +153,8 @@ impl Image for MemImage {
         ensures cause { HasCause self.old.calls.failed self.new.calls.failed result }
 
         // It fails exactly where the call's number is listed.
-        ensures failed { IsErr result ↔ IsTrue (is_due self.old.calls) }
-        ensures counted { self.new.calls ≡ after_call (is_due self.old.calls) self.old.calls }
+        ensures failed { IsErr result ↔ IsTrue (is_to_fail self.old.calls) }
+        ensures counted { self.new.calls ≡ after_call (is_to_fail self.old.calls) self.old.calls }
     {
         if self.faults.call(false) {
             return Err(Failed);
@@ -170,9 +172,9 @@ impl Image for MemImage {
         ensures cause { HasCause self.old.calls.failed self.new.calls.failed result }
 
         // It fails exactly where the call's number is listed, and then counts no flush.
-        ensures failed { IsErr result ↔ IsTrue (is_due self.old.calls) }
+        ensures failed { IsErr result ↔ IsTrue (is_to_fail self.old.calls) }
         ensures unflushed { OnErr result (self.new.flushes ≡ self.old.flushes) }
-        ensures counted { self.new.calls ≡ after_call (is_due self.old.calls) self.old.calls }
+        ensures counted { self.new.calls ≡ after_call (is_to_fail self.old.calls) self.old.calls }
     {
         if self.faults.call(false) {
             return Err(Failed);

@@ -1,7 +1,7 @@
 //! The outside: where a script's bytes come from and go to, the image behind a block device, and
 //! a point at which a test may hold a worker.
 //!
-//! The engine, the block daemon and the programs stand on its four traits. A source, a sink and an
+//! The lines of a script, the engine and the program stand on its four traits. A source, a sink and an
 //! image may tell their bytes, and then the contract of each call says what becomes of them. Each
 //! has a count of faults that never falls, and answers `Failed` only where that count rose. The
 //! forms in memory tell everything, and fail exactly at the calls that they are told to.

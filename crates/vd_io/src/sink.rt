@@ -1,3 +1,5 @@
+//! Where bytes go.
+
 ghost use Rattle.std.specs.Prelude.{◌≡◌, ◌<◌, ◌≤◌, ◌-◌, ◌==◌, ◌||◌, ◌↔◌, ℕ, List, [], Option, Some, None, Result, IfOk, IsErr, IsTrue, OnErr, length, min};
 ghost use Rattle.vd_io.specs.Told.{Pushed, HasCause};
 ghost use Rattle.vd_io.specs.Faults.{Calls, after_call, first_call};

@@ -1,6 +1,8 @@
+//! Where bytes come from.
+
 ghost use Rattle.std.specs.Prelude.{◌≡◌, ◌<◌, ◌≤◌, ◌↔◌, ℕ, List, Option, Some, None, Result, IfOk, IsErr, IsTrue, OnErr, length, min};
 ghost use Rattle.vd_io.specs.Told.{Pulled, HasCause};
-ghost use Rattle.vd_io.specs.Faults.{Calls, is_due, after_call, first_call};
+ghost use Rattle.vd_io.specs.Faults.{Calls, is_to_fail, after_call, first_call};
 
 use crate::Failed;
 use crate::faults::Faults;
@@ -71,8 +73,8 @@ impl Source for MemSource {
 
         // It gives as much as it has room for, and fails exactly where the call's number is listed.
         ensures most { IfOk result (λ n. n ≡ min (length into.old) (length self.old.left)) }
-        ensures failed { IsErr result ↔ IsTrue (is_due self.old.calls) }
-        ensures counted { self.new.calls ≡ after_call (is_due self.old.calls) self.old.calls }
+        ensures failed { IsErr result ↔ IsTrue (is_to_fail self.old.calls) }
+        ensures counted { self.new.calls ≡ after_call (is_to_fail self.old.calls) self.old.calls }
     {
         if self.faults.call(false) {
             return Err(Failed);

@@ -1,3 +1,5 @@
+//! How a layout is printed.
+
 use std::io;
 
 /// Prints the length of a struct.

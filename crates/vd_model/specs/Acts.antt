@@ -58,7 +58,7 @@ pub record Request : Type 0 where
   pub writable : ℕ
 
 -- a chain that a driver added: its head, its descriptors, and the request that it was made for
-pub record Added : Type 0 where
+pub record AddedChain : Type 0 where
   pub head : ℕ
   pub descriptors : List ℕ
   pub request : Option Request
@@ -68,7 +68,7 @@ pub data QueueAct : Type 0 where
   -- the ring and the number of its coherent region
   Ring_made : ℕ → RingPlace → ℕ → QueueAct
   Ring_dropped : ℕ → QueueAct
-  Chain_added : ℕ → Added → QueueAct
+  Chain_added : ℕ → AddedChain → QueueAct
   Chains_published : ℕ → QueueAct
   Chain_reclaimed : ℕ → ℕ → QueueAct
   Fetched : ℕ → QueueAct
@@ -88,7 +88,7 @@ pub data Act : Type 0 where
   Message_act : MessageAct → Act
   State : StateAct → Act
   Queue : QueueAct → Act
-  Disk : DiskAct → Act
+  Disk_act : DiskAct → Act
 
 -- of some acts, those on messages
 abbrev pub message_acts : List Act → List MessageAct

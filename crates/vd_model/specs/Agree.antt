@@ -11,7 +11,7 @@ use Rattle.vd_model.specs.Setting.{Setting}
 use Rattle.vd_model.specs.History.{History, reply}
 
 -- an entry with its answer
-pub record Said : Type 0 where
+pub record AnsweredEntry : Type 0 where
   pub step : Step
   pub failed : Bool
   pub answer : Answer
@@ -41,16 +41,16 @@ concerns d (Device name step) = bytes_eq d name
 concerns d (Queue name step) = bytes_eq d name
 
 -- the entries that name this device or move the clock, with their answers
-unfoldable pub part : Setting → List ℕ → History → List Said
-part x d [] = []
-part x d (entry ∷ before) =
+unfoldable pub device_entries : Setting → List ℕ → History → List AnsweredEntry
+device_entries x d [] = []
+device_entries x d (entry ∷ before) =
     if concerns d entry.step
-    then record { step = entry.step; failed = entry.failed; answer = reply x before entry.step entry.failed } ∷ part x d before
-    else part x d before
+    then record { step = entry.step; failed = entry.failed; answer = reply x before entry.step entry.failed } ∷ device_entries x d before
+    else device_entries x d before
 
 -- two histories agree on a device
 abbrev pub Agree : Setting → List ℕ → History → History → Type 0
-Agree x d h g = part x d h ≡ part x d g
+Agree x d h g = device_entries x d h ≡ device_entries x d g
 
 -- what all devices share a limit in: a line that makes one, or gives it sectors of the image
 abbrev pub plain_shares : ControlStep → Bool

@@ -3,7 +3,7 @@ use Rattle.std.specs.Prelude.{ℕ, List, [], ◌∷◌, codes, decimal, Option, 
 use Rattle.std.specs.Str.{bytes_eq}
 use Rattle.hex.specs.Hex.{encode_lower}
 use Rattle.vd_model.specs.Fields.{length_field, u64_field, hex_field}
-use Rattle.vd_model.specs.Forms.{Form, one, two, three}
+use Rattle.vd_model.specs.Forms.{Form, one_field, two_fields, three_fields}
 use Rattle.vd_model.specs.declared.word.TheConstants.{ALL_AREA_WORDS}
 use Rattle.vd_model.specs.declared.word.AreaWord.{AreaWord}
 use Rattle.vd_model.specs.declared.word.AreaWord.TheVariants as words
@@ -28,15 +28,15 @@ area_word w = find (λ k. bytes_eq w (area_word_text k)) ALL_AREA_WORDS
 
 -- what stands behind the word and the device's name
 abbrev pub area_form : AreaWord → Form AreaStep
-area_form words.Lookup = two u64_field u64_field Lookup
-area_form words.IovaInfo = two u64_field u64_field IovaInfo
-area_form words.Area = one u64_field Area
-area_form words.AreaPut = two u64_field hex_field AreaPut
-area_form words.AreaGet = two u64_field length_field AreaGet
-area_form words.RegUmem = three u64_field u64_field u64_field RegUmem
-area_form words.DeregUmem = two u64_field u64_field DeregUmem
-area_form words.Load = two u64_field length_field Load
-area_form words.Store = two u64_field hex_field Store
+area_form words.Lookup = two_fields u64_field u64_field Lookup
+area_form words.IovaInfo = two_fields u64_field u64_field IovaInfo
+area_form words.Area = one_field u64_field Area
+area_form words.AreaPut = two_fields u64_field hex_field AreaPut
+area_form words.AreaGet = two_fields u64_field length_field AreaGet
+area_form words.RegUmem = three_fields u64_field u64_field u64_field RegUmem
+area_form words.DeregUmem = two_fields u64_field u64_field DeregUmem
+area_form words.Load = two_fields u64_field length_field Load
+area_form words.Store = two_fields u64_field hex_field Store
 
 -- the words of a step's line, without the device's name
 abbrev pub area_text : AreaStep → List (List ℕ)

@@ -13,9 +13,9 @@ use Rattle.vd_model.specs.declared.answer.Item.TheVariants.{Word, Number, Addres
 use Rattle.vd_model.specs.declared.answer.Answer.TheVariants.{Bus}
 use Rattle.vd_model.specs.Setting.{Setting, bounce_size}
 use Rattle.vd_model.specs.Acts.{Act, NodeAct, Coherent, Daemon_put, Area_made, Area_put, Registered, Deregistered}
-use Rattle.vd_model.specs.Live.{live_regions, is_bounce_live, area_len, registered, region_covers, page_of, is_present}
+use Rattle.vd_model.specs.Live.{live_regions, is_bounce_live, area_len, registration_of, region_covers, page_of, is_present}
 use Rattle.vd_model.specs.Puts.{bus_bytes, area_bytes}
-use Rattle.vd_model.specs.Turn.{Turn, refused, told, refuse, given}
+use Rattle.vd_model.specs.Turn.{Turn, refusal_turn, done_with, refuse, refusal_if}
 
 -- ---- access
 
@@ -38,20 +38,24 @@ abbrev pub bus_or : {A : Type 0} → Setting → List Act → ℕ → ℕ → Tu
 bus_or x done at len turn = option_map_or (λ bad. record { answer = Bus bad; acts = [] }) (first_bus x done at len) turn
 
 abbrev pub load_turn : Setting → List Act → ℕ → ℕ → Turn NodeAct
-load_turn x done at len = bus_or x done at len (told (Text (bus_bytes x.per_page done at len) ∷ []) [])
+load_turn x done at len = bus_or x done at len (done_with (Text (bus_bytes x.per_page done at len) ∷ []) [])
 
 abbrev pub store_turn : Setting → List Act → ℕ → List ℕ → Turn NodeAct
-store_turn x done at bytes = bus_or x done at (length bytes) (told [] (Daemon_put at bytes ∷ []))
+store_turn x done at bytes = bus_or x done at (length bytes) (done_with [] (Daemon_put at bytes ∷ []))
 
 -- ---- regions
 
+-- the permission to read and to write, VDUSE_ACCESS_RW
+abbrev pub read_write : ℕ
+read_write = 3
+
 -- the bounce memory as a region that a daemon may read and write, where it is live
 abbrev pub bounce_region : Setting → List Act → List Region
-bounce_region x done = if is_bounce_live done then record { start = 0; last = bounce_size x - 1; offset = 0; perm = 3 } ∷ [] else []
+bounce_region x done = if is_bounce_live done then record { start = 0; last = bounce_size x - 1; offset = 0; perm = read_write } ∷ [] else []
 
 -- a coherent region covers whole slots, and its offset is its start
 abbrev pub region_of : Coherent → Region
-region_of r = record { start = 4096 * r.slot; last = 4096 * (r.slot + pages_of r.len) - 1; offset = 4096 * r.slot; perm = 3 }
+region_of r = record { start = 4096 * r.slot; last = 4096 * (r.slot + pages_of r.len) - 1; offset = 4096 * r.slot; perm = read_write }
 
 -- the regions that a daemon can find
 abbrev pub daemon_regions : Setting → List Act → List Region
@@ -77,12 +81,12 @@ first_region regions start last = lowest (filter (overlaps start last) regions)
 -- what is found of the range, which is refused where it is empty or nothing overlaps it
 abbrev pub found_or : Setting → List Act → ℕ → ℕ → (Region → Turn NodeAct) → Turn NodeAct
 found_or x done start last turn =
-    refuse (given (nat_lt last start) Inval)
-    (option_map_or turn (first_region (daemon_regions x done) start last) (refused Inval))
+    refuse (refusal_if (nat_lt last start) Inval)
+    (option_map_or turn (first_region (daemon_regions x done) start last) (refusal_turn Inval))
 
 abbrev pub lookup_turn : Region → Turn NodeAct
 lookup_turn r =
-    told (Word Offset ∷ Address r.offset ∷ Word Start ∷ Address r.start ∷ Word Last ∷ Address r.last ∷ Word Perm ∷ Number r.perm ∷ []) []
+    done_with (Word Offset ∷ Address r.offset ∷ Word Start ∷ Address r.start ∷ Word Last ∷ Address r.last ∷ Word Perm ∷ Number r.perm ∷ []) []
 
 -- the bounce memory alone can be registered
 abbrev pub capability_of : Region → ℕ
@@ -90,7 +94,7 @@ capability_of r = if r.start == 0 then 1 else 0
 
 abbrev pub iovainfo_turn : Region → Turn NodeAct
 iovainfo_turn r =
-    told (Word Start ∷ Address r.start ∷ Word Last ∷ Address r.last ∷ Word Capability ∷ Number (capability_of r) ∷ []) []
+    done_with (Word Start ∷ Address r.start ∷ Word Last ∷ Address r.last ∷ Word Capability ∷ Number (capability_of r) ∷ []) []
 
 -- ---- the area
 
@@ -104,24 +108,24 @@ area_limit = 134217728
 
 abbrev pub new_area_turn : List Act → ℕ → Turn NodeAct
 new_area_turn done len =
-    refuse (given ((len == 0) || not ((len % 4096) == 0) || nat_lt area_limit len) Inval)
-    (refuse (given (is_some (registered done)) Busy)
-    (told (Word Base ∷ Address area_start ∷ []) (Area_made len ∷ [])))
+    refuse (refusal_if ((len == 0) || not ((len % 4096) == 0) || nat_lt area_limit len) Inval)
+    (refuse (refusal_if (is_some (registration_of done)) Busy)
+    (done_with (Word Base ∷ Address area_start ∷ []) (Area_made len ∷ [])))
 
 -- bytes of the area are refused where there is none, or where they aren't within it
 abbrev pub part_refusal : Option ℕ → ℕ → ℕ → Option Errno
 part_refusal None at len = Some Noent
-part_refusal (Some size) at len = given (nat_lt size (at + len)) Inval
+part_refusal (Some size) at len = refusal_if (nat_lt size (at + len)) Inval
 
 abbrev pub areaput_turn : List Act → ℕ → List ℕ → Turn NodeAct
 areaput_turn done at bytes =
     refuse (part_refusal (area_len done) at (length bytes))
-    (told [] (Area_put at bytes ∷ []))
+    (done_with [] (Area_put at bytes ∷ []))
 
 abbrev pub areaget_turn : Setting → List Act → ℕ → ℕ → Turn NodeAct
 areaget_turn x done at len =
     refuse (part_refusal (area_len done) at len)
-    (told (Text (area_bytes x.per_page done at len) ∷ []) [])
+    (done_with (Text (area_bytes x.per_page done at len) ∷ []) [])
 
 -- ---- registration
 
@@ -134,15 +138,15 @@ may_register x done address iova size =
 
 abbrev pub regumem_turn : Setting → List Act → ℕ → ℕ → ℕ → Turn NodeAct
 regumem_turn x done address iova size =
-    refuse (given (not (may_register x done address iova size)) Inval)
-    (refuse (given (is_some (registered done)) Exist)
-    (told [] (Registered (address - area_start) (bounce_size x) ∷ [])))
+    refuse (refusal_if (not (may_register x done address iova size)) Inval)
+    (refuse (refusal_if (is_some (registration_of done)) Exist)
+    (done_with [] (Registered (address - area_start) (bounce_size x) ∷ [])))
 
 abbrev pub deregumem_turn : Setting → List Act → ℕ → ℕ → Turn NodeAct
 deregumem_turn x done iova size =
-    refuse (given (not (is_some (registered done))) Noent)
-    (refuse (given (not ((iova == 0) && (size == bounce_size x))) Inval)
-    (told [] (Deregistered ∷ [])))
+    refuse (refusal_if (not (is_some (registration_of done))) Noent)
+    (refuse (refusal_if (not ((iova == 0) && (size == bounce_size x))) Inval)
+    (done_with [] (Deregistered ∷ [])))
 
 abbrev pub area_turn : Setting → List Act → AreaStep → Turn NodeAct
 area_turn x done (area.Lookup start last) = found_or x done start last lookup_turn

@@ -2,7 +2,7 @@
 use Rattle.std.specs.Prelude.{ℕ, List, [], ◌∷◌, codes, decimal, Option, find}
 use Rattle.std.specs.Str.{bytes_eq}
 use Rattle.vd_model.specs.Fields.{number_in, length_field, u64_field, u32_field, u16_field, flag_field, on_field}
-use Rattle.vd_model.specs.Forms.{Form, done, one, two, four}
+use Rattle.vd_model.specs.Forms.{Form, no_more_words, one_field, two_fields, four_fields}
 use Rattle.vd_model.specs.Text.{flag_text, on_text}
 use Rattle.vd_model.specs.declared.word.TheConstants.{ALL_BUS_WORDS}
 use Rattle.vd_model.specs.declared.word.BusWord.{BusWord}
@@ -37,24 +37,24 @@ bus_word w = find (λ k. bytes_eq w (bus_word_text k)) ALL_BUS_WORDS
 
 -- what stands behind the word and the device's name
 abbrev pub bus_form : BusWord → Form BusStep
-bus_form words.Attach = done Attach
-bus_form words.Detach = done Detach
-bus_form words.Offered = done Offered
-bus_form words.SetFeatures = one u64_field SetFeatures
-bus_form words.GetStatus = done GetStatus
-bus_form words.SetStatus = one (number_in 1 255) SetStatus
-bus_form words.Reset = done Reset
-bus_form words.VqNum = two u32_field u64_field VqNum
-bus_form words.VqAddr = four u32_field u64_field u64_field u64_field VqAddr
-bus_form words.VqReady = two u32_field flag_field VqReady
-bus_form words.SetVqState = two u32_field u16_field SetVqState
-bus_form words.GetVqState = one u32_field GetVqState
-bus_form words.Kick = one u32_field Kick
-bus_form words.Callback = two on_field flag_field Callback
-bus_form words.Irqs = one on_field Irqs
-bus_form words.GetConfig = two u64_field length_field GetConfig
-bus_form words.Timeout = one u32_field Timeout
-bus_form words.Take = one u32_field Take
+bus_form words.Attach = no_more_words Attach
+bus_form words.Detach = no_more_words Detach
+bus_form words.Offered = no_more_words Offered
+bus_form words.SetFeatures = one_field u64_field SetFeatures
+bus_form words.GetStatus = no_more_words GetStatus
+bus_form words.SetStatus = one_field (number_in 1 255) SetStatus
+bus_form words.Reset = no_more_words Reset
+bus_form words.VqNum = two_fields u32_field u64_field VqNum
+bus_form words.VqAddr = four_fields u32_field u64_field u64_field u64_field VqAddr
+bus_form words.VqReady = two_fields u32_field flag_field VqReady
+bus_form words.SetVqState = two_fields u32_field u16_field SetVqState
+bus_form words.GetVqState = one_field u32_field GetVqState
+bus_form words.Kick = one_field u32_field Kick
+bus_form words.Callback = two_fields on_field flag_field Callback
+bus_form words.Irqs = one_field on_field Irqs
+bus_form words.GetConfig = two_fields u64_field length_field GetConfig
+bus_form words.Timeout = one_field u32_field Timeout
+bus_form words.Take = one_field u32_field Take
 
 -- the words of a step's line, without the device's name
 abbrev pub bus_text : BusStep → List (List ℕ)

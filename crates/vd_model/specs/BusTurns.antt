@@ -10,56 +10,51 @@ use Rattle.vd_model.specs.declared.step.QueueOrConfig.{QueueOrConfig}
 use Rattle.vd_model.specs.declared.step.BusStep.{BusStep}
 use Rattle.vd_model.specs.declared.step.BusStep.TheVariants as bus
 use Rattle.vd_model.specs.declared.answer.Tag.TheVariants.{Id, Avail}
-use Rattle.vd_model.specs.declared.answer.Item.{Item}
 use Rattle.vd_model.specs.declared.answer.Item.TheVariants.{Word, Number, Address, Text}
 use Rattle.vd_model.specs.declared.answer.Answer.{Answer}
 use Rattle.vd_model.specs.declared.answer.Answer.TheVariants.{Done, Err, Pending, FailedReply, FailedTimeout}
 use Rattle.vd_model.specs.Creation.{Creation}
 use Rattle.vd_model.specs.Acts.{Act, Node, Bus, Message_act, State, Config_put, Attached, Detached, message_acts, state_acts}
-use Rattle.vd_model.specs.Messages.{MessageAct, Timed, Sent, Took, Start, next_id, message_of, is_broken, told, untaken, id_limit}
-use Rattle.vd_model.specs.State.{StateAct, Status_set, Features_set, Num_set, Addr_set, Ready_set, Avail_set, Kicked, Callback_set, Interrupts_taken, Cleared, Made, is_queue, may_accept, may_have, are_aligned, are_set_up, is_there, status_of, max_of, interrupts_of}
-use Rattle.vd_model.specs.Live.{is_attached, live, live_regions}
-use Rattle.vd_model.specs.Turn.{Turn, refused, refuse, given}
-
--- an answer of some items, and the acts of a line of the bus
-abbrev pub done_with : List Item → List Act → Turn Act
-done_with items acts = record { answer = Done items; acts = acts }
+use Rattle.vd_model.specs.Messages.{MessageAct, Timed, Sent, Took, MessageStart, next_id, message_of, is_broken, message_told, untaken, id_limit}
+use Rattle.vd_model.specs.State.{StateAct, Status_set, Features_set, Num_set, Addr_set, Ready_set, Avail_set, Kicked, Callback_set, Interrupts_taken, Cleared, DeviceShape, is_queue, may_accept, may_have, are_aligned, are_set_up, is_queue_or_config, device_status, max_of, interrupts_of}
+use Rattle.vd_model.specs.Live.{is_attached, live_mappings, live_regions}
+use Rattle.vd_model.specs.Turn.{Turn, refusal_turn, done_with, refuse, refusal_if}
 
 -- a device's messages have ids from 0 on, and 30 seconds until another timeout is set
-abbrev pub device_start : Start
+abbrev pub device_start : MessageStart
 device_start = record { timeout = 30; first = 0 }
 
 -- what a creation fixes of the state
-abbrev pub fixed : Creation → Made
-fixed made = record { queues = made.queues; offered = made.features }
+abbrev pub shape_of : Creation → DeviceShape
+shape_of made = record { queues = made.queues; offered = made.features }
 
 -- the device has no such queue
 abbrev pub is_missing : Creation → ℕ → Bool
-is_missing made q = not (is_queue (fixed made) q)
+is_missing made q = not (is_queue (shape_of made) q)
 
 -- ---- the bus
 
 -- a device may be attached once each of its queues has a largest size
 abbrev pub attach_turn : Creation → List Act → Turn Act
 attach_turn made done =
-    refuse (given (not (are_set_up (state_acts done) made.queues)) Inval)
-    (refuse (given (is_attached done) Exist)
+    refuse (refusal_if (not (are_set_up (state_acts done) made.queues)) Inval)
+    (refuse (refusal_if (is_attached done) Exist)
     (done_with [] (Bus Attached ∷ [])))
 
 -- something of the driver's is left: a mapping, a coherent region, or a message that wasn't taken
 abbrev pub is_busy : List Act → Bool
-is_busy done = nat_lt 0 (length (live done)) || nat_lt 0 (length (live_regions done)) || nat_lt 0 (untaken (message_acts done))
+is_busy done = nat_lt 0 (length (live_mappings done)) || nat_lt 0 (length (live_regions done)) || nat_lt 0 (untaken (message_acts done))
 
 abbrev pub detach_turn : List Act → Turn Act
-detach_turn done = refuse (given (is_busy done) Busy) (done_with [] (State Cleared ∷ Bus Detached ∷ []))
+detach_turn done = refuse (refusal_if (is_busy done) Busy) (done_with [] (State Cleared ∷ Bus Detached ∷ []))
 
 -- ---- messages
 
 -- a message is sent, unless the device is broken or no id is left
 abbrev pub send_turn : ℕ → List Act → Body → Turn Act
 send_turn now done body =
-    refuse (given (is_broken (message_acts done)) Io)
-    (refuse (given (next_id device_start (message_acts done) == id_limit) Nospc)
+    refuse (refusal_if (is_broken (message_acts done)) Io)
+    (refuse (refusal_if (next_id device_start (message_acts done) == id_limit) Nospc)
     (done_with (Word Id ∷ Number (next_id device_start (message_acts done)) ∷ [])
     (Message_act (Sent (message_of device_start (message_acts done) body now)) ∷ [])))
 
@@ -76,77 +71,77 @@ asks_reset (body.Status value) = value == 0
 asks_reset _ = false
 
 -- the end of a message is taken; that of a reset resets the device, however it ends
-abbrev pub taken : ℕ → Body → List Act → List Act
-taken id body more = (if asks_reset body then State Cleared ∷ [] else more) ++ Message_act (Took id) ∷ []
+abbrev pub message_end_acts : ℕ → Body → List Act → List Act
+message_end_acts id body more = (if asks_reset body then State Cleared ∷ [] else more) ++ Message_act (Took id) ∷ []
 
 -- a status that was set is stored, and a queue's available index is told
 abbrev pub done_turn : ℕ → Body → ℕ → Turn Act
-done_turn id (body.Status value) avail = done_with [] (taken id (body.Status value) (State (Status_set value) ∷ []))
-done_turn id (body.VqState index) avail = done_with (Word Avail ∷ Number avail ∷ []) (taken id (body.VqState index) [])
-done_turn id (body.Iotlb range) avail = done_with [] (taken id (body.Iotlb range) [])
+done_turn id (body.Status value) avail = done_with [] (message_end_acts id (body.Status value) (State (Status_set value) ∷ []))
+done_turn id (body.VqState index) avail = done_with (Word Avail ∷ Number avail ∷ []) (message_end_acts id (body.VqState index) [])
+done_turn id (body.Iotlb range) avail = done_with [] (message_end_acts id (body.Iotlb range) [])
 
 abbrev pub take_turn : ℕ → TakeAnswer → Turn Act
 take_turn id end.Pending = record { answer = Pending; acts = [] }
-take_turn id end.Unknown = refused Noent
+take_turn id end.Unknown = refusal_turn Noent
 take_turn id (end.Done body avail) = done_turn id body avail
-take_turn id (end.FailedByReply body result) = record { answer = FailedReply result; acts = taken id body [] }
-take_turn id (end.FailedByTimeout body deadline now) = record { answer = FailedTimeout deadline now; acts = taken id body [] }
+take_turn id (end.FailedByReply body result) = record { answer = FailedReply result; acts = message_end_acts id body [] }
+take_turn id (end.FailedByTimeout body deadline now) = record { answer = FailedTimeout deadline now; acts = message_end_acts id body [] }
 
 -- ---- features and queues
 
 abbrev pub setfeatures_turn : Creation → ℕ → Turn Act
 setfeatures_turn made features =
-    refuse (given (not (may_accept (fixed made) features)) Inval)
+    refuse (refusal_if (not (may_accept (shape_of made) features)) Inval)
     (done_with [] (State (Features_set features) ∷ []))
 
 abbrev pub vqnum_turn : Creation → List StateAct → ℕ → ℕ → Turn Act
 vqnum_turn made state q num =
-    refuse (given (is_missing made q) Inval)
-    (refuse (given (not (may_have (max_of state q) num)) Inval)
+    refuse (refusal_if (is_missing made q) Inval)
+    (refuse (refusal_if (not (may_have (max_of state q) num)) Inval)
     (done_with [] (State (Num_set q num) ∷ [])))
 
 abbrev pub vqaddr_turn : Creation → ℕ → ℕ → ℕ → ℕ → Turn Act
 vqaddr_turn made q desc driver device =
-    refuse (given (is_missing made q) Inval)
-    (refuse (given (not (are_aligned desc driver device)) Inval)
+    refuse (refusal_if (is_missing made q) Inval)
+    (refuse (refusal_if (not (are_aligned desc driver device)) Inval)
     (done_with [] (State (Addr_set q desc driver device) ∷ [])))
 
 -- an act on a queue that is there
 abbrev pub on_queue : Creation → ℕ → StateAct → Turn Act
-on_queue made q act = refuse (given (is_missing made q) Inval) (done_with [] (State act ∷ []))
+on_queue made q act = refuse (refusal_if (is_missing made q) Inval) (done_with [] (State act ∷ []))
 
 abbrev pub getvqstate_turn : Creation → ℕ → List Act → ℕ → Turn Act
-getvqstate_turn made now done q = refuse (given (is_missing made q) Inval) (send_turn now done (body.VqState q))
+getvqstate_turn made now done q = refuse (refusal_if (is_missing made q) Inval) (send_turn now done (body.VqState q))
 
 abbrev pub callback_turn : Creation → QueueOrConfig → Bool → Turn Act
 callback_turn made on flag =
-    refuse (given (not (is_there (fixed made) on)) Inval)
+    refuse (refusal_if (not (is_queue_or_config (shape_of made) on)) Inval)
     (done_with [] (State (Callback_set on flag) ∷ []))
 
 abbrev pub irqs_turn : Creation → List StateAct → QueueOrConfig → Turn Act
 irqs_turn made state on =
-    refuse (given (not (is_there (fixed made) on)) Inval)
+    refuse (refusal_if (not (is_queue_or_config (shape_of made) on)) Inval)
     (done_with (Number (interrupts_of state on) ∷ []) (State (Interrupts_taken on) ∷ []))
 
 -- ---- the config space
 
 -- some bytes with others in place of theirs from `at` on
-abbrev pub overlaid : List ℕ → ℕ → List ℕ → List ℕ
-overlaid old at bytes = take at old ++ (bytes ++ drop (at + length bytes) old)
+abbrev pub overlay : List ℕ → ℕ → List ℕ → List ℕ
+overlay old at bytes = take at old ++ (bytes ++ drop (at + length bytes) old)
 
 -- the bytes of the config space, which were these at the making
 abbrev pub config_of : List ℕ → List Act → List ℕ
 config_of first [] = first
-config_of first (Node (Config_put at bytes) ∷ acts) = overlaid (config_of first acts) at bytes
+config_of first (Node (Config_put at bytes) ∷ acts) = overlay (config_of first acts) at bytes
 config_of first (_ ∷ acts) = config_of first acts
 
 -- no bytes, or some outside the config space
-abbrev pub is_outside_config : Creation → ℕ → ℕ → Bool
-is_outside_config made at len = (len == 0) || nat_lt (length made.config) (at + len)
+abbrev pub is_outside_config : List ℕ → ℕ → ℕ → Bool
+is_outside_config config at len = (len == 0) || nat_lt (length config) (at + len)
 
 abbrev pub getconfig_turn : Creation → List Act → ℕ → ℕ → Turn Act
 getconfig_turn made done at len =
-    refuse (given (is_outside_config made at len) Inval)
+    refuse (refusal_if (is_outside_config made.config at len) Inval)
     (done_with (Text (slice_range (config_of made.config done) at (at + len)) ∷ []) [])
 
 -- ---- the lines
@@ -163,7 +158,7 @@ attached_turn made now done bus.Attach = attach_turn made done
 attached_turn made now done bus.Detach = detach_turn done
 attached_turn made now done bus.Offered = done_with (Address made.features ∷ []) []
 attached_turn made now done (bus.SetFeatures features) = setfeatures_turn made features
-attached_turn made now done bus.GetStatus = done_with (Number (status_of (state_acts done)) ∷ []) []
+attached_turn made now done bus.GetStatus = done_with (Number (device_status (state_acts done)) ∷ []) []
 attached_turn made now done (bus.SetStatus status) = send_turn now done (body.Status status)
 attached_turn made now done bus.Reset = reset_turn now done
 attached_turn made now done (bus.VqNum queue num) = vqnum_turn made (state_acts done) queue num
@@ -176,8 +171,8 @@ attached_turn made now done (bus.Callback on flag) = callback_turn made on flag
 attached_turn made now done (bus.Irqs on) = irqs_turn made (state_acts done) on
 attached_turn made now done (bus.GetConfig offset len) = getconfig_turn made done offset len
 attached_turn made now done (bus.Timeout seconds) = done_with [] (Message_act (Timed seconds) ∷ [])
-attached_turn made now done (bus.Take id) = take_turn id (told (message_acts done) id)
+attached_turn made now done (bus.Take id) = take_turn id (message_told (message_acts done) id)
 
 abbrev pub bus_turn : Creation → ℕ → List Act → BusStep → Turn Act
 bus_turn made now done step =
-    refuse (given (needs_attachment step && not (is_attached done)) Nodev) (attached_turn made now done step)
+    refuse (refusal_if (needs_attachment step && not (is_attached done)) Nodev) (attached_turn made now done step)

@@ -2,7 +2,7 @@
 use Rattle.std.specs.Prelude.{ℕ, List, [], ◌∷◌, codes, decimal, Option, find}
 use Rattle.std.specs.Str.{bytes_eq}
 use Rattle.vd_model.specs.Fields.{u64_field, u32_field, name_field, optional_hex_field}
-use Rattle.vd_model.specs.Forms.{Form, done, one, two, three, seven}
+use Rattle.vd_model.specs.Forms.{Form, no_more_words, one_field, two_fields, three_fields, seven_fields}
 use Rattle.vd_model.specs.Text.{optional_hex_text}
 use Rattle.vd_model.specs.declared.word.TheConstants.{ALL_CONTROL_WORDS}
 use Rattle.vd_model.specs.declared.word.ControlWord.{ControlWord}
@@ -27,14 +27,14 @@ control_word w = find (λ k. bytes_eq w (control_word_text k)) ALL_CONTROL_WORDS
 
 -- what stands behind the word
 abbrev pub control_form : ControlWord → Form ControlStep
-control_form words.Version = done Version
-control_form words.SetVersion = one u64_field SetVersion
-control_form words.Create = seven name_field u32_field u32_field u64_field u32_field u32_field optional_hex_field Create
-control_form words.Destroy = one name_field Destroy
-control_form words.Dev = one name_field Dev
-control_form words.Control = two u64_field optional_hex_field Control
-control_form words.Tick = one u64_field Tick
-control_form words.Image = three name_field u64_field u64_field Image
+control_form words.Version = no_more_words Version
+control_form words.SetVersion = one_field u64_field SetVersion
+control_form words.Create = seven_fields name_field u32_field u32_field u64_field u32_field u32_field optional_hex_field Create
+control_form words.Destroy = one_field name_field Destroy
+control_form words.Dev = one_field name_field Dev
+control_form words.Control = two_fields u64_field optional_hex_field Control
+control_form words.Tick = one_field u64_field Tick
+control_form words.Image = three_fields name_field u64_field u64_field Image
 
 -- the words of a step's line
 abbrev pub control_text : ControlStep → List (List ℕ)

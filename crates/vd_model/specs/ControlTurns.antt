@@ -1,5 +1,5 @@
 -- The lines of the control node and of the clock.
-use Rattle.std.specs.Prelude.{ℕ, ◌+◌, ◌^◌, List, [], ◌∷◌, ◌==◌, ◌||◌, ◌&&◌, not, nat_lt, nat_le, length, Bool, true, false, Option, Some, None, is_some, replicate, if◌then◌else◌}
+use Rattle.std.specs.Prelude.{ℕ, ◌+◌, ◌^◌, List, [], ◌∷◌, ◌==◌, ◌||◌, not, nat_lt, nat_le, length, Bool, true, false, Option, Some, None, is_some, replicate, if◌then◌else◌}
 use Rattle.std.specs.List.{list_all}
 use Rattle.vd_num.specs.declared.errno.Errno.{Errno}
 use Rattle.vd_num.specs.declared.errno.Errno.TheVariants.{Busy, Exist, Nodev, Inval, Nospc}
@@ -14,26 +14,27 @@ use Rattle.vd_model.specs.Setting.{Setting}
 use Rattle.vd_model.specs.Acts.{Node, State, Bus, Opened, Attached}
 use Rattle.vd_model.specs.State.{Max_set}
 use Rattle.vd_model.specs.Live.{is_open, is_attached}
-use Rattle.vd_model.specs.Turn.{given}
+use Rattle.vd_model.specs.Turn.{refusal_if}
+use Rattle.vd_model.specs.Fields.{is_name_byte}
 use Rattle.vd_model.specs.Raw.{control_step}
 use Rattle.vd_model.specs.Creation.{Creation, has_feature}
-use Rattle.vd_model.specs.Deeds.{Deed, Made, Destroyed, On, Given, Passed, own, is_there, devices, clock, window_of, is_given}
+use Rattle.vd_model.specs.Deeds.{Deed, Made, Destroyed, On, Given, Passed, acts_of_device, has_device, devices, clock, window_of, is_given}
 
 -- a step's answer, and what it does, the newest first
 pub record Outcome : Type 0 where
   pub answer : Answer
   pub deeds : List Deed
 
-abbrev pub done_with : List Item → List Deed → Outcome
-done_with items deeds = record { answer = Done items; deeds = deeds }
+abbrev pub done_outcome : List Item → List Deed → Outcome
+done_outcome items deeds = record { answer = Done items; deeds = deeds }
 
-abbrev pub refused_all : Errno → Outcome
-refused_all errno = record { answer = Err errno; deeds = [] }
+abbrev pub refusal_outcome : Errno → Outcome
+refusal_outcome errno = record { answer = Err errno; deeds = [] }
 
 -- a refusal, if there is one, and else this outcome
-abbrev pub refuse_all : Option Errno → Outcome → Outcome
-refuse_all None outcome = outcome
-refuse_all (Some errno) outcome = refused_all errno
+abbrev pub refuse_outcome : Option Errno → Outcome → Outcome
+refuse_outcome None outcome = outcome
+refuse_outcome (Some errno) outcome = refusal_outcome errno
 
 -- ---- devices
 
@@ -44,8 +45,8 @@ device_limit = 8
 -- what is made of a name is refused where the name is there, or where there are eight devices
 abbrev pub new_or : List Deed → List ℕ → Outcome → Outcome
 new_or done name outcome =
-    refuse_all (given (is_there name done) Exist)
-    (refuse_all (given (nat_le device_limit (devices done)) Nospc) outcome)
+    refuse_outcome (refusal_if (has_device name done) Exist)
+    (refuse_outcome (refusal_if (nat_le device_limit (devices done)) Nospc) outcome)
 
 -- a device of one queue with the features VERSION_1, ACCESS_PLATFORM, FLUSH, INDIRECT_DESC and EVENT_IDX
 abbrev pub plain_creation : Creation
@@ -54,7 +55,7 @@ plain_creation = record { features = 0x330000200; queues = 1; config = replicate
 -- a device that is made, opened and set up, and then attached to the bus
 abbrev pub dev_made : List ℕ → Outcome
 dev_made name =
-    done_with (Word Session ∷ Number 0 ∷ [])
+    done_outcome (Word Session ∷ Number 0 ∷ [])
     (On name (Bus Attached) ∷ On name (State (Max_set 0 256)) ∷ On name (Node Opened) ∷ Made name plain_creation ∷ [])
 
 abbrev pub dev_outcome : List Deed → List ℕ → Outcome
@@ -67,64 +68,61 @@ is_bad_config device features queues align config =
     not (device == 2) || not (has_feature features 33) || has_feature features 11
     || (queues == 0) || nat_lt 64 queues || nat_lt 4096 align || nat_lt 4096 (length config)
 
--- a byte of a name: a lower-case letter, a digit, _ or -
-abbrev pub is_name_byte : ℕ → Bool
-is_name_byte b = (nat_le 97 b && nat_le b 122) || (nat_le 48 b && nat_le b 57) || (b == 95) || (b == 45)
-
+-- no bytes, or some that no name has
 abbrev pub is_bad_name : List ℕ → Bool
 is_bad_name name = (length name == 0) || not (list_all is_name_byte name)
 
 abbrev pub create_outcome : List Deed → List ℕ → ℕ → ℕ → ℕ → ℕ → List ℕ → Outcome
 create_outcome done name device features queues align config =
-    refuse_all (given (is_bad_name name || is_bad_config device features queues align config) Inval)
-    (new_or done name (done_with [] (Made name (record { features = features; queues = queues; config = config }) ∷ [])))
+    refuse_outcome (refusal_if (is_bad_name name || is_bad_config device features queues align config) Inval)
+    (new_or done name (done_outcome [] (Made name (record { features = features; queues = queues; config = config }) ∷ [])))
 
 -- the device is open or on the bus
-abbrev pub is_used : List ℕ → List Deed → Bool
-is_used name done = is_open (own name done) || is_attached (own name done)
+abbrev pub is_device_in_use : List ℕ → List Deed → Bool
+is_device_in_use name done = is_open (acts_of_device name done) || is_attached (acts_of_device name done)
 
 abbrev pub destroy_outcome : List Deed → List ℕ → Outcome
 destroy_outcome done name =
-    refuse_all (given (not (is_there name done)) Nodev)
-    (refuse_all (given (is_used name done) Busy) (done_with [] (Destroyed name ∷ [])))
+    refuse_outcome (refusal_if (not (has_device name done)) Nodev)
+    (refuse_outcome (refusal_if (is_device_in_use name done) Busy) (done_outcome [] (Destroyed name ∷ [])))
 
 -- ---- the version of the interface, which is 0
 
 abbrev pub setversion_outcome : ℕ → Outcome
-setversion_outcome version = refuse_all (given (nat_lt 0 version) Inval) (done_with [] [])
+setversion_outcome version = refuse_outcome (refusal_if (nat_lt 0 version) Inval) (done_outcome [] [])
 
 -- ---- the clock, in seconds up to 2 to the 40th
 
 abbrev pub tick_outcome : ℕ → Outcome
-tick_outcome now = refuse_all (given (nat_lt (2 ^ 40) now) Inval) (done_with (Number now ∷ []) (Passed now ∷ []))
+tick_outcome now = refuse_outcome (refusal_if (nat_lt (2 ^ 40) now) Inval) (done_outcome (Number now ∷ []) (Passed now ∷ []))
 
 -- ---- sectors of the image
 
 abbrev pub image_outcome : Setting → List Deed → List ℕ → ℕ → ℕ → Outcome
 image_outcome x done name first count =
-    refuse_all (given (not (is_there name done)) Nodev)
-    (refuse_all (given (is_some (window_of name done)) Exist)
-    (refuse_all (given (count == 0) Inval)
-    (refuse_all (given (nat_lt x.sectors (first + count)) Nospc)
-    (refuse_all (given (is_given first count done) Busy)
-    (done_with [] (Given name (record { first = first; count = count }) ∷ []))))))
+    refuse_outcome (refusal_if (not (has_device name done)) Nodev)
+    (refuse_outcome (refusal_if (is_some (window_of name done)) Exist)
+    (refuse_outcome (refusal_if (count == 0) Inval)
+    (refuse_outcome (refusal_if (nat_lt x.sectors (first + count)) Nospc)
+    (refuse_outcome (refusal_if (is_given first count done) Busy)
+    (done_outcome [] (Given name (record { first = first; count = count }) ∷ []))))))
 
 -- ---- the lines
 
 abbrev pub plain_outcome : Setting → List Deed → ControlStep → Outcome
-plain_outcome x done control.Version = done_with (Number 0 ∷ []) []
+plain_outcome x done control.Version = done_outcome (Number 0 ∷ []) []
 plain_outcome x done (control.SetVersion version) = setversion_outcome version
 plain_outcome x done (control.Create name vendor device features queues align config) = create_outcome done name device features queues align config
 plain_outcome x done (control.Destroy name) = destroy_outcome done name
 plain_outcome x done (control.Dev name) = dev_outcome done name
 plain_outcome x done (control.Tick seconds) = tick_outcome (clock done + seconds)
 plain_outcome x done (control.Image name first count) = image_outcome x done name first count
-plain_outcome x done (control.Control number bytes) = refused_all Inval
+plain_outcome x done (control.Control number bytes) = refusal_outcome Inval
 
 -- a raw line is answered as the plain line that it stands for, and the version as a number of eight bytes
 abbrev pub raw_outcome : Setting → List Deed → Option ControlStep → Outcome
-raw_outcome x done None = refused_all Inval
-raw_outcome x done (Some control.Version) = done_with (Text (replicate 8 0) ∷ []) []
+raw_outcome x done None = refusal_outcome Inval
+raw_outcome x done (Some control.Version) = done_outcome (Text (replicate 8 0) ∷ []) []
 raw_outcome x done (Some step) = plain_outcome x done step
 
 abbrev pub control_outcome : Setting → List Deed → ControlStep → Outcome

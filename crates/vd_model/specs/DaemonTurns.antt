@@ -13,31 +13,31 @@ use Rattle.vd_model.specs.declared.answer.Item.TheVariants.{Word, Number}
 use Rattle.vd_model.specs.declared.answer.Answer.TheVariants as answer
 use Rattle.vd_model.specs.Setting.{Setting}
 use Rattle.vd_model.specs.Creation.{Creation, has_feature}
-use Rattle.vd_model.specs.Acts.{Act, Node, Queue, Disk, Daemon_put, Fetched, Executed, Finished, Stored, state_acts}
-use Rattle.vd_model.specs.State.{features_of, info_of, is_ready}
-use Rattle.vd_model.specs.Puts.{shown}
+use Rattle.vd_model.specs.Acts.{Act, Node, Queue, Disk_act, Daemon_put, Fetched, Executed, Finished, Stored, state_acts}
+use Rattle.vd_model.specs.State.{features_of, queue_info, is_ready}
+use Rattle.vd_model.specs.Puts.{shown_put}
 use Rattle.vd_model.specs.Memory.{Memory, read}
 use Rattle.vd_model.specs.Rings.{minus16, next16, needs_event, number16, available_flags_at, available_index_at, available_slot_at, used_event_at, used_index_at, used_element_at, available_event_at}
-use Rattle.vd_model.specs.Trace.{start_of, Ending, whole, faulty, missing, ending_of}
-use Rattle.vd_model.specs.Turn.{Turn, refused, refuse, given}
+use Rattle.vd_model.specs.Trace.{trace_start, Ending, whole, faulty, missing, ending_of}
+use Rattle.vd_model.specs.Turn.{Turn, refusal_turn, refuse, refusal_if, done_with}
 use Rattle.vd_model.specs.AreaTurns.{is_accessible}
-use Rattle.vd_model.specs.BusTurns.{done_with, is_missing}
+use Rattle.vd_model.specs.BusTurns.{is_missing}
 use Rattle.vd_model.specs.Raw.{little_bytes}
-use Rattle.vd_model.specs.Queues.{before_first, fetches, finishes, in_hand, executed, Executed_as}
+use Rattle.vd_model.specs.Queues.{before_first, fetches, finishes, in_hand, execution_of, Execution}
 use Rattle.vd_model.specs.Block as block
 
 -- ---- what the daemon reads
 
 -- the bytes that a daemon can access
 abbrev pub daemon_memory : Setting → List Act → Memory
-daemon_memory x done a = if is_accessible x done a then Some (shown x.per_page done a).byte else None
+daemon_memory x done a = if is_accessible x done a then Some (shown_put x.per_page done a).byte else None
 
 -- a queue as the driver described it
-abbrev pub place_of : QueueInfo → RingPlace
-place_of i = record { size = i.num; desc = i.desc; driver = i.driver; device = i.device }
+abbrev pub ring_place_of : QueueInfo → RingPlace
+ring_place_of i = record { size = i.num; desc = i.desc; driver = i.driver; device = i.device }
 
 abbrev pub queue_place : List Act → ℕ → RingPlace
-queue_place done q = place_of (info_of (state_acts done) q)
+queue_place done q = ring_place_of (queue_info (state_acts done) q)
 
 -- the driver accepted INDIRECT_DESC (bit 28), and EVENT_IDX (bit 29)
 abbrev pub has_indirect : List Act → Bool
@@ -63,8 +63,8 @@ read_or (Err at) turn = record { answer = answer.Bus at; acts = [] }
 
 abbrev pub walk_turn : Setting → Creation → List Act → ℕ → ℕ → Turn Act
 walk_turn x made done q head =
-    refuse (given (is_missing made q || ((queue_place done q).size == 0)) Inval)
-    (chain_or (ending_of (start_of (queue_place done q) head (has_indirect done)) (daemon_memory x done))
+    refuse (refusal_if (is_missing made q || ((queue_place done q).size == 0)) Inval)
+    (chain_or (ending_of (trace_start (queue_place done q) head (has_indirect done)) (daemon_memory x done))
     (λ chain. done_with (Word tag.Parts ∷ Number (length chain.parts) ∷ Word tag.Readable ∷ Number chain.readable ∷ Word tag.Writable ∷ Number chain.writable ∷ []) []))
 
 -- ---- fetch
@@ -74,18 +74,18 @@ abbrev pub first_used : Setting → List Act → ℕ → Result ℕ ℕ
 first_used x done q = option_map_or (λ earlier. number16 (daemon_memory x earlier) (used_index_at (queue_place earlier q))) (before_first done q) (number16 (daemon_memory x done) (used_index_at (queue_place done q)))
 
 -- the position on the queue: that used index, and one more for each request fetched since
-abbrev pub moved : ℕ → ℕ → ℕ
-moved n from = (from + n) % 65536
+abbrev pub index_after : ℕ → ℕ → ℕ
+index_after n from = (from + n) % 65536
 
 -- the bytes of the parts that the device reads, in their order, or the first address that can't be accessed
-abbrev pub joined : Result (List ℕ) ℕ → Result (List ℕ) ℕ → Result (List ℕ) ℕ
-joined (Err at) rest = Err at
-joined (Ok bytes) (Ok more) = Ok (bytes ++ more)
-joined (Ok bytes) (Err at) = Err at
+abbrev pub bytes_then : Result (List ℕ) ℕ → Result (List ℕ) ℕ → Result (List ℕ) ℕ
+bytes_then (Err at) rest = Err at
+bytes_then (Ok bytes) (Ok more) = Ok (bytes ++ more)
+bytes_then (Ok bytes) (Err at) = Err at
 
 abbrev pub readable_bytes : Memory → List Part → Result (List ℕ) ℕ
 readable_bytes m [] = Ok []
-readable_bytes m (part ∷ parts) = if part.writable then readable_bytes m parts else joined (read m part.at part.len) (readable_bytes m parts)
+readable_bytes m (part ∷ parts) = if part.writable then readable_bytes m parts else bytes_then (read m part.at part.len) (readable_bytes m parts)
 
 -- the position is told to the driver, with EVENT_IDX
 abbrev pub event_puts : List Act → RingPlace → ℕ → List Act
@@ -116,13 +116,13 @@ fetch_chain x done q place position chain =
 abbrev pub fetch_at : Setting → List Act → ℕ → RingPlace → ℕ → Turn Act
 fetch_at x done q place position =
     read_or (number16 (daemon_memory x done) (available_slot_at place position))
-    (λ head. chain_or (ending_of (start_of place head (has_indirect done)) (daemon_memory x done)) (fetch_chain x done q place position))
+    (λ head. chain_or (ending_of (trace_start place head (has_indirect done)) (daemon_memory x done)) (fetch_chain x done q place position))
 
 -- an available index that is too far ahead, or that is the position
 abbrev pub ahead_or : RingPlace → ℕ → ℕ → Turn Act → Turn Act
 ahead_or place found position turn =
     if nat_lt place.size (minus16 found position) then record { answer = answer.Ahead found position; acts = [] }
-    else refuse (given (found == position) Again) turn
+    else refuse (refusal_if (found == position) Again) turn
 
 abbrev pub fetch_from : Setting → List Act → ℕ → RingPlace → ℕ → Turn Act
 fetch_from x done q place position =
@@ -135,9 +135,9 @@ is_idle made done q = is_missing made q || not (is_ready (state_acts done) q) ||
 
 abbrev pub fetch_turn : Setting → Creation → List Act → ℕ → Turn Act
 fetch_turn x made done q =
-    refuse (given (is_idle made done q) Inval)
-    (refuse (given (is_some (in_hand done q)) Busy)
-    (read_or (first_used x done q) (λ used. fetch_from x done q (queue_place done q) (moved (fetches done q) used))))
+    refuse (refusal_if (is_idle made done q) Inval)
+    (refuse (refusal_if (is_some (in_hand done q)) Busy)
+    (read_or (first_used x done q) (λ used. fetch_from x done q (queue_place done q) (index_after (fetches done q) used))))
 
 -- ---- the request in hand
 
@@ -145,7 +145,7 @@ fetch_turn x made done q =
 abbrev pub hand_position : Setting → List Act → ℕ → ℕ
 hand_position x earlier q = number_or (first_used x earlier q) where
   number_or : Result ℕ ℕ → ℕ
-  number_or (Ok used) = moved (fetches earlier q) used
+  number_or (Ok used) = index_after (fetches earlier q) used
   number_or (Err at) = 0
 
 abbrev pub hand_head : Setting → List Act → ℕ → ℕ
@@ -171,17 +171,17 @@ hand_of x earlier (whole chain) =
 hand_of x earlier _ = record { head = 0; parts = []; writable = 0; bytes = [] }
 
 abbrev pub hand : Setting → List Act → ℕ → Hand
-hand x earlier q = hand_of x earlier (ending_of (start_of (queue_place earlier q) (hand_head x earlier q) (has_indirect earlier)) (daemon_memory x earlier))
+hand x earlier q = hand_of x earlier (ending_of (trace_start (queue_place earlier q) (hand_head x earlier q) (has_indirect earlier)) (daemon_memory x earlier))
 
 -- ---- execute
 
 -- what is stored, where the request stores its payload
-abbrev pub stored : block.Block → block.Result_of → List Act
-stored b result = if result.stores then Disk (Stored (512 * b.sector) b.payload) ∷ [] else []
+abbrev pub store_acts : block.Block → block.RequestResult → List Act
+store_acts b result = if result.stores then Disk_act (Stored (512 * b.sector) b.payload) ∷ [] else []
 
-abbrev pub executed_turn : ℕ → block.Block → block.Result_of → Turn Act
+abbrev pub executed_turn : ℕ → block.Block → block.RequestResult → Turn Act
 executed_turn q b result =
-    done_with (Word tag.Status ∷ Number result.status ∷ []) (stored b result ++ Queue (Executed q result.status result.bytes) ∷ [])
+    done_with (Word tag.Status ∷ Number result.status ∷ []) (store_acts b result ++ Queue (Executed q result.status result.bytes) ∷ [])
 
 abbrev pub execute_hand : block.Disk → Bool → ℕ → Hand → Turn Act
 execute_hand disk failed q h =
@@ -189,9 +189,9 @@ execute_hand disk failed q h =
 
 abbrev pub execute_turn : Setting → Creation → block.Disk → Bool → List Act → ℕ → Turn Act
 execute_turn x made disk failed done q =
-    refuse (given (is_missing made q) Inval)
-    (refuse (given (is_some (executed done q)) Noent)
-    (option_map_or (λ earlier. execute_hand disk failed q (hand x earlier q)) (in_hand done q) (refused Noent)))
+    refuse (refusal_if (is_missing made q) Inval)
+    (refuse (refusal_if (is_some (execution_of done q)) Noent)
+    (option_map_or (λ earlier. execute_hand disk failed q (hand x earlier q)) (in_hand done q) (refusal_turn Noent)))
 
 -- ---- finish
 
@@ -202,10 +202,10 @@ unwritable_or m (part ∷ parts) turn =
     if part.writable then read_or (read m part.at part.len) (λ bytes. unwritable_or m parts turn) else unwritable_or m parts turn
 
 -- the bytes spread over the parts that the device writes, the newest act first
-abbrev pub spread : List Part → List ℕ → List Act → List Act
-spread [] bytes acts = acts
-spread (part ∷ parts) bytes acts =
-    if part.writable then spread parts (drop part.len bytes) (Node (Daemon_put part.at (take part.len bytes)) ∷ acts) else spread parts bytes acts
+abbrev pub spread_acts : List Part → List ℕ → List Act → List Act
+spread_acts [] bytes acts = acts
+spread_acts (part ∷ parts) bytes acts =
+    if part.writable then spread_acts parts (drop part.len bytes) (Node (Daemon_put part.at (take part.len bytes)) ∷ acts) else spread_acts parts bytes acts
 
 -- the field that decides whether the driver is interrupted
 abbrev pub deciding_field : List Act → RingPlace → ℕ
@@ -219,11 +219,11 @@ wants_interrupt done used field =
     else (if field % 2 == 0 then 1 else 0)
 
 -- the puts of a finish: answer and status, the used element, and then the used index
-abbrev pub finish_puts : RingPlace → ℕ → Hand → Executed_as → List Act
+abbrev pub finish_puts : RingPlace → ℕ → Hand → Execution → List Act
 finish_puts place used h end =
     Node (Daemon_put (used_index_at place) (little_bytes 2 (next16 used)))
     ∷ Node (Daemon_put (used_element_at place used) (little_bytes 4 h.head ++ little_bytes 4 h.writable))
-    ∷ spread h.parts (end.bytes ++ end.status ∷ []) []
+    ∷ spread_acts h.parts (end.bytes ++ end.status ∷ []) []
 
 -- the interrupt is decided by what the field has after them
 abbrev pub finished_turn : Setting → List Act → ℕ → RingPlace → ℕ → Hand → List Act → Turn Act
@@ -232,7 +232,7 @@ finished_turn x done q place used h puts =
     (λ field. done_with (Word tag.Len ∷ Number h.writable ∷ Word tag.Irq ∷ Number (wants_interrupt done used field) ∷ []) (Queue (Finished q) ∷ puts))
 
 -- all that a finish accesses is tested before the first byte is stored
-abbrev pub finish_hand : Setting → List Act → ℕ → RingPlace → ℕ → Hand → Executed_as → Turn Act
+abbrev pub finish_hand : Setting → List Act → ℕ → RingPlace → ℕ → Hand → Execution → Turn Act
 finish_hand x done q place used h end =
     unwritable_or (daemon_memory x done) h.parts
     (read_or (read (daemon_memory x done) (used_element_at place used) 8) (λ element.
@@ -244,12 +244,12 @@ finish_hand x done q place used h end =
 abbrev pub used_position : Setting → List Act → ℕ → ℕ
 used_position x done q = number_or (first_used x done q) where
   number_or : Result ℕ ℕ → ℕ
-  number_or (Ok used) = moved (finishes done q) used
+  number_or (Ok used) = index_after (finishes done q) used
   number_or (Err at) = 0
 
 abbrev pub finish_turn : Setting → Creation → List Act → ℕ → Turn Act
 finish_turn x made done q =
-    refuse (given (is_missing made q) Inval)
+    refuse (refusal_if (is_missing made q) Inval)
     (option_map_or (λ earlier.
-    option_map_or (λ end. finish_hand x done q (queue_place done q) (used_position x done q) (hand x earlier q) end) (executed done q) (refused Noent))
-    (in_hand done q) (refused Noent))
+    option_map_or (λ end. finish_hand x done q (queue_place done q) (used_position x done q) (hand x earlier q) end) (execution_of done q) (refusal_turn Noent))
+    (in_hand done q) (refusal_turn Noent))

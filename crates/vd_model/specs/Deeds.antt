@@ -4,7 +4,7 @@ use Rattle.std.specs.Str.{bytes_eq}
 use Rattle.std.specs.Option.{option_map_or}
 use Rattle.vd_model.specs.declared.memory.Window.{Window}
 use Rattle.vd_model.specs.Setting.{Setting}
-use Rattle.vd_model.specs.Acts.{Act, Message_act, Disk, Stored}
+use Rattle.vd_model.specs.Acts.{Act, Message_act, Disk_act, Stored}
 use Rattle.vd_model.specs.Messages.{Elapsed}
 use Rattle.vd_model.specs.Puts.{byte_in}
 use Rattle.vd_model.specs.Creation.{Creation}
@@ -18,12 +18,12 @@ pub data Deed : Type 0 where
   Passed : ℕ → Deed
 
 -- the acts of one device since it was last made, and the ticks
-abbrev pub own : List ℕ → List Deed → List Act
-own name [] = []
-own name (Made made creation ∷ before) = if bytes_eq name made then [] else own name before
-own name (On done act ∷ before) = if bytes_eq name done then act ∷ own name before else own name before
-own name (Passed now ∷ before) = Message_act (Elapsed now) ∷ own name before
-own name (_ ∷ before) = own name before
+abbrev pub acts_of_device : List ℕ → List Deed → List Act
+acts_of_device name [] = []
+acts_of_device name (Made made creation ∷ before) = if bytes_eq name made then [] else acts_of_device name before
+acts_of_device name (On done act ∷ before) = if bytes_eq name done then act ∷ acts_of_device name before else acts_of_device name before
+acts_of_device name (Passed now ∷ before) = Message_act (Elapsed now) ∷ acts_of_device name before
+acts_of_device name (_ ∷ before) = acts_of_device name before
 
 -- what the device of this name was made with, if there is one
 abbrev pub made_with : List ℕ → List Deed → Option Creation
@@ -33,8 +33,8 @@ made_with name (Destroyed gone ∷ before) = if bytes_eq name gone then None els
 made_with name (_ ∷ before) = made_with name before
 
 -- there is a device of this name
-abbrev pub is_there : List ℕ → List Deed → Bool
-is_there name done = is_some (made_with name done)
+abbrev pub has_device : List ℕ → List Deed → Bool
+has_device name done = is_some (made_with name done)
 
 -- how many devices there are
 abbrev pub devices : List Deed → ℕ
@@ -69,20 +69,20 @@ window_start name before = option_map_or (λ w. 512 * w.first) (window_of name b
 -- byte i of the image: the last one that was stored there, else that of the image at the start
 abbrev pub image_byte : Setting → List Deed → ℕ → ℕ
 image_byte x [] i = x.content i
-image_byte x (On name (Disk (Stored at bytes)) ∷ before) i =
+image_byte x (On name (Disk_act (Stored at bytes)) ∷ before) i =
     unwrap_or (byte_in bytes (window_start name before + at) i) (image_byte x before i)
 image_byte x (_ ∷ before) i = image_byte x before i
 
 -- the acts of a name in the whole run, those on devices of the name that are gone among them
-abbrev pub ever : List ℕ → List Deed → List Act
-ever name [] = []
-ever name (On done act ∷ before) = if bytes_eq name done then act ∷ ever name before else ever name before
-ever name (_ ∷ before) = ever name before
+abbrev pub acts_of_name : List ℕ → List Deed → List Act
+acts_of_name name [] = []
+acts_of_name name (On done act ∷ before) = if bytes_eq name done then act ∷ acts_of_name name before else acts_of_name name before
+acts_of_name name (_ ∷ before) = acts_of_name name before
 
 -- byte i of a window: the last one that these acts stored there, else that of the window at the start
 abbrev pub window_byte : (ℕ → ℕ) → List Act → ℕ → ℕ
 window_byte start [] i = start i
-window_byte start (Disk (Stored at bytes) ∷ acts) i = unwrap_or (byte_in bytes at i) (window_byte start acts i)
+window_byte start (Disk_act (Stored at bytes) ∷ acts) i = unwrap_or (byte_in bytes at i) (window_byte start acts i)
 window_byte start (_ ∷ acts) i = window_byte start acts i
 
 -- all that a line on a device may look at: what the device was made with, its acts, the time, its window, and the
@@ -94,11 +94,11 @@ pub record Seen : Type 0 where
   pub window : Option Window
   pub disk : ℕ → ℕ
 
-abbrev pub seen : Setting → List ℕ → List Deed → Seen
-seen x name done = record {
+abbrev pub device_view : Setting → List ℕ → List Deed → Seen
+device_view x name done = record {
   made = made_with name done;
-  acts = own name done;
+  acts = acts_of_device name done;
   now = clock done;
   window = window_of name done;
-  disk = window_byte (λ i. x.content (window_start name done + i)) (ever name done);
+  disk = window_byte (λ i. x.content (window_start name done + i)) (acts_of_name name done);
 }

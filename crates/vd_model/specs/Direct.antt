@@ -3,7 +3,7 @@ use Rattle.std.specs.Prelude.{ℕ, ◌+◌, ◌-◌, List, [], ◌∷◌, length
 use Rattle.std.specs.Option.{option_and_then}
 use Rattle.vd_num.specs.Number.{is_within}
 use Rattle.vd_model.specs.Acts.{Act, DriverAct, Streaming, Node, Driver, Daemon_put, Area_put, Buffer, Zeroed, Poked, Mapped, Unmapped, Synced_device, Synced_cpu, Region_made, Driver_put}
-use Rattle.vd_model.specs.Live.{Registration, registered, buffers, live, iova_of, region_covers}
+use Rattle.vd_model.specs.Live.{Registration, registration_of, buffers, live_mappings, iova_of, region_covers}
 use Rattle.vd_model.specs.Puts.{byte_in, is_to_device, is_from_device}
 
 -- ---- what a daemon writes
@@ -16,7 +16,7 @@ area_written (Some r) at bytes a = if nat_lt a r.size then byte_in bytes at (r.b
 -- the byte that an act of a daemon writes at an address, by a store there or at its cell in the area
 abbrev pub daemon_writes : List Act → Act → ℕ → Option ℕ
 daemon_writes acts (Node (Daemon_put at bytes)) a = byte_in bytes at a
-daemon_writes acts (Node (Area_put at bytes)) a = area_written (registered acts) at bytes a
+daemon_writes acts (Node (Area_put at bytes)) a = area_written (registration_of acts) at bytes a
 daemon_writes acts _ a = None
 
 -- the mapping brings bytes back, and byte i of buffer k is one that it maps
@@ -41,8 +41,8 @@ highest i [] = None
 highest i (m ∷ ms) = Some (higher i m (highest i ms))
 
 -- the live mapping through which an act of a daemon writes byte i of buffer k last
-abbrev pub through : List Act → Act → ℕ → ℕ → Option Streaming
-through acts act k i = highest i (filter (reaches acts act k i) (live acts))
+abbrev pub mapping_through : List Act → Act → ℕ → ℕ → Option Streaming
+mapping_through acts act k i = highest i (filter (reaches acts act k i) (live_mappings acts))
 
 -- ---- the value of a buffer's byte
 
@@ -50,13 +50,13 @@ abbrev pub direct_put : List Act → Act → ℕ → ℕ → Option ℕ
 direct_put acts (Driver (Buffer bytes)) k i = if k == buffers acts then byte_in bytes 0 i else None
 direct_put acts (Driver (Zeroed len)) k i = if (k == buffers acts) && nat_lt i len then Some 0 else None
 direct_put acts (Driver (Poked buffer at bytes)) k i = if k == buffer then byte_in bytes at i else None
-direct_put acts (Node act) k i = option_and_then (λ m. daemon_writes acts (Node act) (address_for m i)) (through acts (Node act) k i)
+direct_put acts (Node act) k i = option_and_then (λ m. daemon_writes acts (Node act) (address_for m i)) (mapping_through acts (Node act) k i)
 direct_put acts _ k i = None
 
 -- byte i of buffer k: the last that the driver or a daemon wrote
-abbrev pub direct : List Act → ℕ → ℕ → ℕ
-direct [] k i = 0
-direct (act ∷ acts) k i = unwrap_or (direct_put acts act k i) (direct acts k i)
+abbrev pub direct_byte : List Act → ℕ → ℕ → ℕ
+direct_byte [] k i = 0
+direct_byte (act ∷ acts) k i = unwrap_or (direct_put acts act k i) (direct_byte acts k i)
 
 -- ---- the marks
 
@@ -91,15 +91,15 @@ told_after (Some l) byte m = Some (l.number == m.number)
 
 abbrev pub mark_put : (Mark → Bool) → List Act → Act → Mark → Option Bool
 mark_put before acts (Driver act) (Known k i) = known_put before acts act k i
-mark_put before acts (Node act) (Known k i) = mark_if (is_some (through acts (Node act) k i)) false
+mark_put before acts (Node act) (Known k i) = mark_if (is_some (mapping_through acts (Node act) k i)) false
 mark_put before acts (Driver act) (Told m i) = told_put before act m i
-mark_put before acts (Node act) (Told m i) = told_after (through acts (Node act) m.want.buffer (m.want.offset + i)) (daemon_writes acts (Node act) (iova_of m + i)) m
+mark_put before acts (Node act) (Told m i) = told_after (mapping_through acts (Node act) m.want.buffer (m.want.offset + i)) (daemon_writes acts (Node act) (iova_of m + i)) m
 mark_put before acts _ mark = None
 
 -- whether a mark is yes
-abbrev pub marked : List Act → Mark → Bool
-marked [] mark = false
-marked (act ∷ acts) mark = unwrap_or (mark_put (marked acts) acts act mark) (marked acts mark)
+abbrev pub is_marked : List Act → Mark → Bool
+is_marked [] mark = false
+is_marked (act ∷ acts) mark = unwrap_or (mark_put (is_marked acts) acts act mark) (is_marked acts mark)
 
 -- ---- coherent memory
 

@@ -3,7 +3,7 @@ use Rattle.std.specs.Prelude.{ℕ, ◌-◌, ◌^◌, List, [], ◌∷◌, codes,
 use Rattle.std.specs.Str.{bytes_eq}
 use Rattle.hex.specs.Hex.{encode_lower}
 use Rattle.vd_model.specs.Fields.{number_in, length_field, u64_field, hex_field, dir_field}
-use Rattle.vd_model.specs.Forms.{Form, one, three, four}
+use Rattle.vd_model.specs.Forms.{Form, one_field, three_fields, four_fields}
 use Rattle.vd_model.specs.Text.{dir_text}
 use Rattle.vd_model.specs.declared.word.TheConstants.{ALL_DRIVER_WORDS}
 use Rattle.vd_model.specs.declared.word.DriverWord.{DriverWord}
@@ -33,19 +33,19 @@ driver_word w = find (λ k. bytes_eq w (driver_word_text k)) ALL_DRIVER_WORDS
 
 -- what stands behind the word and the device's name
 abbrev pub driver_form : DriverWord → Form DriverStep
-driver_form words.Buf = one hex_field Buf
-driver_form words.Zeros = one (number_in 1 (2 ^ 64 - 1)) Zeros
-driver_form words.Free = one u64_field Free
-driver_form words.Poke = three u64_field u64_field hex_field Poke
-driver_form words.Peek = three u64_field u64_field length_field Peek
-driver_form words.Map = four u64_field u64_field u64_field dir_field Map
-driver_form words.Unmap = one u64_field Unmap
-driver_form words.SyncDev = one u64_field SyncDev
-driver_form words.SyncCpu = one u64_field SyncCpu
-driver_form words.Coherent = one u64_field Coherent
-driver_form words.FreeCoherent = one u64_field FreeCoherent
-driver_form words.Cput = three u64_field u64_field hex_field Cput
-driver_form words.Cget = three u64_field u64_field length_field Cget
+driver_form words.Buf = one_field hex_field Buf
+driver_form words.Zeros = one_field (number_in 1 (2 ^ 64 - 1)) Zeros
+driver_form words.Free = one_field u64_field Free
+driver_form words.Poke = three_fields u64_field u64_field hex_field Poke
+driver_form words.Peek = three_fields u64_field u64_field length_field Peek
+driver_form words.Map = four_fields u64_field u64_field u64_field dir_field Map
+driver_form words.Unmap = one_field u64_field Unmap
+driver_form words.SyncDev = one_field u64_field SyncDev
+driver_form words.SyncCpu = one_field u64_field SyncCpu
+driver_form words.Coherent = one_field u64_field Coherent
+driver_form words.FreeCoherent = one_field u64_field FreeCoherent
+driver_form words.Cput = three_fields u64_field u64_field hex_field Cput
+driver_form words.Cget = three_fields u64_field u64_field length_field Cget
 
 -- the words of a step's line, without the device's name
 abbrev pub driver_text : DriverStep → List (List ℕ)

@@ -34,13 +34,13 @@ numeral (c ∷ []) = plain_number 10 (c ∷ [])
 numeral (c ∷ d ∷ w) = if (c == 48) && (d == 120) then plain_number 16 w else plain_number 10 (c ∷ d ∷ w)
 
 -- a number, where it is from low to high
-abbrev pub within : ℕ → ℕ → Option ℕ → Option ℕ
-within low high None = None
-within low high (Some n) = if nat_le low n && nat_le n high then Some n else None
+abbrev pub number_within : ℕ → ℕ → Option ℕ → Option ℕ
+number_within low high None = None
+number_within low high (Some n) = if nat_le low n && nat_le n high then Some n else None
 
 -- a number from low to high
 unfoldable pub number_in : ℕ → ℕ → Field ℕ
-number_in low high w = within low high (numeral w)
+number_in low high w = number_within low high (numeral w)
 
 -- a number that fits 64 bits
 abbrev pub u64_field : Field ℕ
@@ -58,7 +58,7 @@ u16_field = number_in 0 (2 ^ 16 - 1)
 abbrev pub length_field : Field ℕ
 length_field = number_in 1 32768
 
--- a to z, 0 to 9, _ and -
+-- a byte of a name: a lower-case letter, a digit, _ or -
 abbrev pub is_name_byte : ℕ → Bool
 is_name_byte c = (nat_le 97 c && nat_le c 122) || (nat_le 48 c && nat_le c 57) || (c == 95) || (c == 45)
 

@@ -14,7 +14,7 @@ use Rattle.vd_model.specs.declared.step.QueueStep.TheVariants as queue
 use Rattle.vd_model.specs.Setting.{Setting}
 use Rattle.vd_model.specs.Acts.{Act, Node, Driver}
 use Rattle.vd_model.specs.Live.{is_open, is_attached}
-use Rattle.vd_model.specs.Turn.{Turn, refused, refuse, given, lift}
+use Rattle.vd_model.specs.Turn.{Turn, refusal_turn, refuse, refusal_if, lift}
 use Rattle.vd_model.specs.DriverTurns.{driver_turn}
 use Rattle.vd_model.specs.AreaTurns.{area_turn}
 use Rattle.vd_model.specs.NodeTurns.{node_turn}
@@ -24,15 +24,15 @@ use Rattle.vd_model.specs.Block.{Disk}
 use Rattle.vd_model.specs.DaemonTurns.{walk_turn, fetch_turn, execute_turn, finish_turn}
 use Rattle.vd_model.specs.RingTurns.{ring_turn, unring_turn, add_turn, publish_turn, submit_turn, poll_turn}
 use Rattle.vd_model.specs.Creation.{Creation}
-use Rattle.vd_model.specs.Deeds.{Deed, On, Seen, seen}
+use Rattle.vd_model.specs.Deeds.{Deed, On, Seen, device_view}
 use Rattle.vd_model.specs.ControlTurns.{Outcome, control_outcome}
 
 -- a daemon's line on memory needs a session, and a driver's line a device on the bus
 abbrev pub needs_session : List Act → Turn Act → Turn Act
-needs_session done turn = refuse (given (not (is_open done)) Badf) turn
+needs_session done turn = refuse (refusal_if (not (is_open done)) Badf) turn
 
 abbrev pub needs_bus : List Act → Turn Act → Turn Act
-needs_bus done turn = refuse (given (not (is_attached done)) Nodev) turn
+needs_bus done turn = refuse (refusal_if (not (is_attached done)) Nodev) turn
 
 -- what belongs to a ring or to a pending request isn't the driver's to use: a buffer that a request made can't be mapped,
 -- its mappings can't be unmapped, and a ring's region can't be freed
@@ -42,15 +42,15 @@ is_kept made done (driver.Unmap mapping) = some_pending (has_map mapping) done m
 is_kept made done (driver.FreeCoherent region) = is_ring_region done region made.queues
 is_kept made done _ = false
 
-abbrev pub free_turn : Creation → List Act → DriverStep → Turn Act → Turn Act
-free_turn made done step turn = refuse (given (is_kept made done step) Busy) turn
+abbrev pub needs_unkept : Creation → List Act → DriverStep → Turn Act → Turn Act
+needs_unkept made done step turn = refuse (refusal_if (is_kept made done step) Busy) turn
 
 -- a line on a device that was made with this
 abbrev pub dev_turn : Setting → Creation → Seen → DevStep → Turn Act
 dev_turn x made seen (line.Node step) = node_turn x made seen.acts step
 dev_turn x made seen (line.Area step) = needs_session seen.acts (lift Node (area_turn x seen.acts step))
 dev_turn x made seen (line.Bus step) = bus_turn made seen.now seen.acts step
-dev_turn x made seen (line.Driver step) = needs_bus seen.acts (free_turn made seen.acts step (lift Driver (driver_turn x seen.acts step)))
+dev_turn x made seen (line.Driver step) = needs_bus seen.acts (needs_unkept made seen.acts step (lift Driver (driver_turn x seen.acts step)))
 
 -- the disk that a device's requests go to: its name's window of the image
 abbrev pub disk_of : Creation → List ℕ → Seen → Disk
@@ -72,20 +72,20 @@ queue_turn x made name seen failed (queue.Poll q) = needs_bus seen.acts (poll_tu
 
 -- a line on a device, which is refused where there is none of the name
 abbrev pub device_turn : Setting → Seen → DevStep → Turn Act
-device_turn x seen step = option_map_or (λ made. dev_turn x made seen step) seen.made (refused Nodev)
+device_turn x seen step = option_map_or (λ made. dev_turn x made seen step) seen.made (refusal_turn Nodev)
 
 abbrev pub device_queue_turn : Setting → List ℕ → Seen → Bool → QueueStep → Turn Act
-device_queue_turn x name seen failed step = option_map_or (λ made. queue_turn x made name seen failed step) seen.made (refused Nodev)
+device_queue_turn x name seen failed step = option_map_or (λ made. queue_turn x made name seen failed step) seen.made (refusal_turn Nodev)
 
 -- a turn of the device of this name
-abbrev pub on : List ℕ → Turn Act → Outcome
-on name turn = record { answer = turn.answer; deeds = map (On name) turn.acts }
+abbrev pub device_outcome : List ℕ → Turn Act → Outcome
+device_outcome name turn = record { answer = turn.answer; deeds = map (On name) turn.acts }
 
 -- what a step is answered after some deeds, and what it does; `failed` tells that the image failed at it
 abbrev pub outcome : Setting → List Deed → Step → Bool → Outcome
 outcome x done (Control step) failed = control_outcome x done step
-outcome x done (Device name step) failed = on name (device_turn x (seen x name done) step)
-outcome x done (Queue name step) failed = on name (device_queue_turn x name (seen x name done) failed step)
+outcome x done (Device name step) failed = device_outcome name (device_turn x (device_view x name done) step)
+outcome x done (Queue name step) failed = device_outcome name (device_queue_turn x name (device_view x name done) failed step)
 
 -- what was asked: a step, and whether the image failed at it
 pub record Entry : Type 0 where

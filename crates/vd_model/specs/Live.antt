@@ -53,19 +53,19 @@ buffer_len (Driver (Freed f) ∷ acts) k = if k == f then None else buffer_len a
 buffer_len (_ ∷ acts) k = buffer_len acts k
 
 -- the bytes of all buffers together
-abbrev pub buffered : List Act → ℕ
-buffered [] = 0
-buffered (Driver (Buffer bytes) ∷ acts) = buffered acts + length bytes
-buffered (Driver (Zeroed len) ∷ acts) = buffered acts + len
-buffered (Driver (Freed f) ∷ acts) = buffered acts - unwrap_or (buffer_len acts f) 0
-buffered (_ ∷ acts) = buffered acts
+abbrev pub buffers_len : List Act → ℕ
+buffers_len [] = 0
+buffers_len (Driver (Buffer bytes) ∷ acts) = buffers_len acts + length bytes
+buffers_len (Driver (Zeroed len) ∷ acts) = buffers_len acts + len
+buffers_len (Driver (Freed f) ∷ acts) = buffers_len acts - unwrap_or (buffer_len acts f) 0
+buffers_len (_ ∷ acts) = buffers_len acts
 
 -- the mappings without a later unmap, the oldest first
-abbrev pub live : List Act → List Streaming
-live [] = []
-live (Driver (Mapped m) ∷ acts) = live acts ++ m ∷ []
-live (Driver (Unmapped m) ∷ acts) = filter (λ l. not (l.number == m.number)) (live acts)
-live (_ ∷ acts) = live acts
+abbrev pub live_mappings : List Act → List Streaming
+live_mappings [] = []
+live_mappings (Driver (Mapped m) ∷ acts) = live_mappings acts ++ m ∷ []
+live_mappings (Driver (Unmapped m) ∷ acts) = filter (λ l. not (l.number == m.number)) (live_mappings acts)
+live_mappings (_ ∷ acts) = live_mappings acts
 
 -- the coherent regions that weren't freed later, the oldest first
 abbrev pub live_regions : List Act → List Coherent
@@ -94,11 +94,11 @@ pub record Registration : Type 0 where
   pub size : ℕ
 
 -- the registration that stands
-abbrev pub registered : List Act → Option Registration
-registered [] = None
-registered (Node (Registered base size) ∷ acts) = Some (record { base = base; size = size })
-registered (Node Deregistered ∷ acts) = None
-registered (_ ∷ acts) = registered acts
+abbrev pub registration_of : List Act → Option Registration
+registration_of [] = None
+registration_of (Node (Registered base size) ∷ acts) = Some (record { base = base; size = size })
+registration_of (Node Deregistered ∷ acts) = None
+registration_of (_ ∷ acts) = registration_of acts
 
 -- the first address of a mapping
 abbrev pub iova_of : Streaming → ℕ
@@ -121,13 +121,13 @@ abbrev pub meets_page : ℕ → ℕ → Streaming → Bool
 meets_page g page m = nat_lt (g * page) (m.slot + pages_of m.want.len) && nat_lt m.slot (g * page + g)
 
 -- a page is in use where a live mapping's slots meet it
-abbrev pub in_use : ℕ → List Act → ℕ → Bool
-in_use g acts page = list_any (meets_page g page) (live acts)
+abbrev pub is_in_use : ℕ → List Act → ℕ → Bool
+is_in_use g acts page = list_any (meets_page g page) (live_mappings acts)
 
 -- a bounce page is present once a mapping met it; at a registration all are, and after it those that are in use
 abbrev pub is_present : ℕ → List Act → ℕ → Bool
 is_present g [] page = false
 is_present g (Driver (Mapped m) ∷ acts) page = meets_page g page m || is_present g acts page
 is_present g (Node (Registered base size) ∷ acts) page = true
-is_present g (Node Deregistered ∷ acts) page = in_use g acts page
+is_present g (Node Deregistered ∷ acts) page = is_in_use g acts page
 is_present g (_ ∷ acts) page = is_present g acts page

@@ -19,7 +19,7 @@ pub data MessageAct : Type 0 where
   Elapsed : ℕ → MessageAct
 
 -- what a device begins with: the timeout of its messages, and the id of the first one
-pub record Start : Type 0 where
+pub record MessageStart : Type 0 where
   pub timeout : ℕ
   pub first : ℕ
 
@@ -32,17 +32,17 @@ sends (Sent m ∷ acts) = sends acts + 1
 sends (_ ∷ acts) = sends acts
 
 -- the id of the next message
-abbrev pub next_id : Start → List MessageAct → ℕ
+abbrev pub next_id : MessageStart → List MessageAct → ℕ
 next_id start acts = start.first + sends acts
 
 -- the timeout of later messages: the last one that was set
-abbrev pub timeout_of : Start → List MessageAct → ℕ
+abbrev pub timeout_of : MessageStart → List MessageAct → ℕ
 timeout_of start [] = start.timeout
 timeout_of start (Timed seconds ∷ acts) = seconds
 timeout_of start (_ ∷ acts) = timeout_of start acts
 
 -- the message that a send makes
-abbrev pub message_of : Start → List MessageAct → Body → ℕ → Message
+abbrev pub message_of : MessageStart → List MessageAct → Body → ℕ → Message
 message_of start acts body now = record { id = next_id start acts; body = body; moment = now; timeout = timeout_of start acts }
 
 -- ---- deadlines
@@ -71,15 +71,15 @@ breaks now ms = list_any (is_due now) ms
 -- ---- what waits, and what is held
 
 -- the message is not the one with this id
-abbrev pub is_other : ℕ → Message → Bool
-is_other id m = not (m.id == id)
+abbrev pub is_other_message : ℕ → Message → Bool
+is_other_message id m = not (m.id == id)
 
 -- the messages that are outstanding, the first sent first: from its send on, until an answer is
 -- accepted or a tick breaks the device
 abbrev pub outstanding : List MessageAct → List Message
 outstanding [] = []
 outstanding (Sent m ∷ acts) = outstanding acts ++ m ∷ []
-outstanding (Answered id result avail ∷ acts) = filter (is_other id) (outstanding acts)
+outstanding (Answered id result avail ∷ acts) = filter (is_other_message id) (outstanding acts)
 outstanding (Elapsed now ∷ acts) = if breaks now (outstanding acts) then [] else outstanding acts
 outstanding (_ ∷ acts) = outstanding acts
 
@@ -105,30 +105,30 @@ abbrev pub is_held : List MessageAct → ℕ → Bool
 is_held acts id = is_some (outstanding_as acts id) && is_received acts id
 
 -- the first outstanding message that isn't held
-abbrev pub next : List MessageAct → Option Message
-next acts = find (λ m. not (is_received acts m.id)) (outstanding acts)
+abbrev pub next_message : List MessageAct → Option Message
+next_message acts = find (λ m. not (is_received acts m.id)) (outstanding acts)
 
 -- ---- what a take tells
 
 -- how an accepted answer ends a message: it is done by the result 0, and failed by every other
-abbrev pub replied : Message → ℕ → ℕ → TakeAnswer
-replied m result avail = if result == 0 then Done m.body avail else FailedByReply m.body result
+abbrev pub reply_answer : Message → ℕ → ℕ → TakeAnswer
+reply_answer m result avail = if result == 0 then Done m.body avail else FailedByReply m.body result
 
 -- how a tick ends a message: it fails where one was due
-abbrev pub timed_out : Option ℕ → Option Message → ℕ → TakeAnswer → TakeAnswer
-timed_out (Some deadline) (Some m) now before = FailedByTimeout m.body deadline now
-timed_out _ _ now before = before
+abbrev pub timeout_answer : Option ℕ → Option Message → ℕ → TakeAnswer → TakeAnswer
+timeout_answer (Some deadline) (Some m) now before = FailedByTimeout m.body deadline now
+timeout_answer _ _ now before = before
 
 -- what a take of the id tells, by the last act that concerns it: its send, the accepted answer, the tick
 -- that broke the device while it was outstanding, or an earlier final take
-abbrev pub told : List MessageAct → ℕ → TakeAnswer
-told [] id = Unknown
-told (Sent m ∷ acts) id = if m.id == id then Pending else told acts id
-told (Answered k result avail ∷ acts) id =
-    if k == id then option_map_or (λ m. replied m result avail) (outstanding_as acts id) (told acts id) else told acts id
-told (Elapsed now ∷ acts) id = timed_out (least_due now (outstanding acts)) (outstanding_as acts id) now (told acts id)
-told (Took k ∷ acts) id = if k == id then Unknown else told acts id
-told (_ ∷ acts) id = told acts id
+abbrev pub message_told : List MessageAct → ℕ → TakeAnswer
+message_told [] id = Unknown
+message_told (Sent m ∷ acts) id = if m.id == id then Pending else message_told acts id
+message_told (Answered k result avail ∷ acts) id =
+    if k == id then option_map_or (λ m. reply_answer m result avail) (outstanding_as acts id) (message_told acts id) else message_told acts id
+message_told (Elapsed now ∷ acts) id = timeout_answer (least_due now (outstanding acts)) (outstanding_as acts id) now (message_told acts id)
+message_told (Took k ∷ acts) id = if k == id then Unknown else message_told acts id
+message_told (_ ∷ acts) id = message_told acts id
 
 -- how many final takes there were, and how many messages are untaken
 abbrev pub takes : List MessageAct → ℕ
@@ -156,13 +156,13 @@ abbrev pub id_limit : ℕ
 id_limit = 4294967295
 
 -- the act that a send makes, unless the device is broken or no id is left
-abbrev pub send_acts : Start → List MessageAct → Body → ℕ → List MessageAct
+abbrev pub send_acts : MessageStart → List MessageAct → Body → ℕ → List MessageAct
 send_acts start acts body now =
     if is_broken acts || (next_id start acts == id_limit) then [] else Sent (message_of start acts body now) ∷ []
 
 -- the act of a receive, if a message waits
 abbrev pub recv_acts : List MessageAct → List MessageAct
-recv_acts acts = option_map_or (λ m. Received m.id ∷ []) (next acts) []
+recv_acts acts = option_map_or (λ m. Received m.id ∷ []) (next_message acts) []
 
 -- the act of an answer, if the session holds the id
 abbrev pub answer_acts : List MessageAct → ℕ → ℕ → ℕ → List MessageAct
@@ -175,19 +175,19 @@ take_acts Unknown id = []
 take_acts _ id = Took id ∷ []
 
 -- the acts that a call makes after earlier ones
-abbrev pub call_acts : Start → List MessageAct → MessageCall → List MessageAct
+abbrev pub call_acts : MessageStart → List MessageAct → MessageCall → List MessageAct
 call_acts start acts (Timing seconds) = Timed seconds ∷ []
 call_acts start acts (Sending body now) = send_acts start acts body now
 call_acts start acts Receiving = recv_acts acts
 call_acts start acts (Answering id result avail) = answer_acts acts id result avail
 call_acts start acts Losing = Lost ∷ []
 call_acts start acts (Ticking now) = Elapsed now ∷ []
-call_acts start acts (Taking id) = take_acts (told acts id) id
+call_acts start acts (Taking id) = take_acts (message_told acts id) id
 
 -- all acts after a list of calls, the newest call first
-abbrev pub run : Start → List MessageCall → List MessageAct
-run start [] = []
-run start (call ∷ calls) = call_acts start (run start calls) call ++ run start calls
+abbrev pub message_run : MessageStart → List MessageCall → List MessageAct
+message_run start [] = []
+message_run start (call ∷ calls) = call_acts start (message_run start calls) call ++ message_run start calls
 
 -- how many answers to the id were accepted
 abbrev pub answers_to : ℕ → List MessageAct → ℕ

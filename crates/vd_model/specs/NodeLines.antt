@@ -3,7 +3,7 @@ use Rattle.std.specs.Prelude.{ℕ, List, [], ◌∷◌, codes, decimal, Option, 
 use Rattle.std.specs.Str.{bytes_eq}
 use Rattle.hex.specs.Hex.{encode_lower}
 use Rattle.vd_model.specs.Fields.{u64_field, u32_field, u16_field, hex_field, optional_hex_field, flag_field}
-use Rattle.vd_model.specs.Forms.{Form, done, one, two, three}
+use Rattle.vd_model.specs.Forms.{Form, no_more_words, one_field, two_fields, three_fields}
 use Rattle.vd_model.specs.Text.{flag_text, optional_hex_text}
 use Rattle.vd_model.specs.declared.word.TheConstants.{ALL_NODE_WORDS}
 use Rattle.vd_model.specs.declared.word.NodeWord.{NodeWord}
@@ -35,21 +35,21 @@ node_word w = find (λ k. bytes_eq w (node_word_text k)) ALL_NODE_WORDS
 
 -- what stands behind the word and the device's name
 abbrev pub node_form : NodeWord → Form NodeStep
-node_form words.Open = done Open
-node_form words.Close = done Close
-node_form words.Features = done Features
-node_form words.SetConfig = two u64_field hex_field SetConfig
-node_form words.ConfigIrq = done ConfigIrq
-node_form words.VqSetup = two u32_field u16_field VqSetup
-node_form words.VqInfo = one u32_field VqInfo
-node_form words.KickFd = two u32_field flag_field KickFd
-node_form words.Kicks = one u32_field Kicks
-node_form words.Irq = one u32_field Irq
-node_form words.Recv = done Recv
-node_form words.Answer = three u32_field u32_field u16_field Answer
-node_form words.Read = one u32_field Read
-node_form words.Write = one hex_field Write
-node_form words.Ioctl = two u64_field optional_hex_field Ioctl
+node_form words.Open = no_more_words Open
+node_form words.Close = no_more_words Close
+node_form words.Features = no_more_words Features
+node_form words.SetConfig = two_fields u64_field hex_field SetConfig
+node_form words.ConfigIrq = no_more_words ConfigIrq
+node_form words.VqSetup = two_fields u32_field u16_field VqSetup
+node_form words.VqInfo = one_field u32_field VqInfo
+node_form words.KickFd = two_fields u32_field flag_field KickFd
+node_form words.Kicks = one_field u32_field Kicks
+node_form words.Irq = one_field u32_field Irq
+node_form words.Recv = no_more_words Recv
+node_form words.Answer = three_fields u32_field u32_field u16_field Answer
+node_form words.Read = one_field u32_field Read
+node_form words.Write = one_field hex_field Write
+node_form words.Ioctl = two_fields u64_field optional_hex_field Ioctl
 
 -- the words of a step's line, without the device's name
 abbrev pub node_text : NodeStep → List (List ℕ)

@@ -16,18 +16,18 @@ abbrev pub line_limit : ℕ
 line_limit = 65536
 
 -- the lines, the first of them with b in front, if there is one
-abbrev pub onto_first_ended : ℕ → List (List ℕ) → List (List ℕ)
-onto_first_ended b [] = []
-onto_first_ended b (line ∷ lines) = (b ∷ line) ∷ lines
+abbrev pub onto_first_line : ℕ → List (List ℕ) → List (List ℕ)
+onto_first_line b [] = []
+onto_first_line b (line ∷ lines) = (b ∷ line) ∷ lines
 
 -- the lines that an LF ends
-unfoldable pub ended : List ℕ → List (List ℕ)
-ended [] = []
-ended (b ∷ bytes) = if b == 10 then [] ∷ ended bytes else onto_first_ended b (ended bytes)
+unfoldable pub ended_lines : List ℕ → List (List ℕ)
+ended_lines [] = []
+ended_lines (b ∷ bytes) = if b == 10 then [] ∷ ended_lines bytes else onto_first_line b (ended_lines bytes)
 
 -- the lines of a script; of one that is too long, those that an LF within the limit ends
 abbrev pub script_lines : List ℕ → List (List ℕ)
-script_lines text = if nat_le (length text) text_limit then lines text else ended (take text_limit text)
+script_lines text = if nat_le (length text) text_limit then lines text else ended_lines (take text_limit text)
 
 -- the line is short enough and in the grammar
 abbrev pub is_good : List ℕ → Bool
@@ -58,11 +58,11 @@ abbrev pub has_failed : List ℕ → ℕ → Bool
 has_failed failures n = list_any (λ i. i == n) failures
 
 -- the history with what line n asks
-abbrev pub asked : List ℕ → ℕ → Step → History → History
-asked failures n step h = record { step = step; failed = has_failed failures n } ∷ h
+abbrev pub history_with : List ℕ → ℕ → Step → History → History
+history_with failures n step h = record { step = step; failed = has_failed failures n } ∷ h
 
 abbrev pub later_of : List ℕ → ℕ → Option (Option Step) → History → History
-later_of failures n (Some (Some step)) h = asked failures n step h
+later_of failures n (Some (Some step)) h = history_with failures n step h
 later_of failures n _ h = h
 
 -- the history after some lines, of which the first is line n
@@ -76,11 +76,11 @@ reply_to failures x n h (Some (Some step)) = reply_line (reply x h step (has_fai
 reply_to failures x n h _ = []
 
 -- the replies to some lines after a history, of which the first is line n
-unfoldable pub out_from : List ℕ → Setting → ℕ → History → List (List ℕ) → List ℕ
-out_from failures x n h [] = []
-out_from failures x n h (line ∷ rest) =
-    reply_to failures x n h (served_reading line) ++ out_from failures x (n + 1) (later_of failures n (served_reading line) h) rest
+unfoldable pub output_from : List ℕ → Setting → ℕ → History → List (List ℕ) → List ℕ
+output_from failures x n h [] = []
+output_from failures x n h (line ∷ rest) =
+    reply_to failures x n h (served_reading line) ++ output_from failures x (n + 1) (later_of failures n (served_reading line) h) rest
 
 -- what is written for a script, where the image failed at these lines
-abbrev pub out : Setting → List ℕ → List ℕ → List ℕ
-out x text failures = out_from failures x 1 [] (good_lines text)
+abbrev pub script_output : Setting → List ℕ → List ℕ → List ℕ
+script_output x text failures = output_from failures x 1 [] (good_lines text)

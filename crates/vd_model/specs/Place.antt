@@ -3,7 +3,7 @@ use Rattle.std.specs.Prelude.{ℕ, zero, suc, ◌+◌, ◌%◌, List, [], ◌∷
 use Rattle.std.specs.List.{list_any}
 use Rattle.vd_num.specs.Number.{pages_of, power_from}
 use Rattle.vd_model.specs.Acts.{Act, Streaming, Coherent}
-use Rattle.vd_model.specs.Live.{live, live_regions}
+use Rattle.vd_model.specs.Live.{live_mappings, live_regions}
 
 -- a range of slots: its first, and how many
 pub record Slots : Type 0 where
@@ -36,5 +36,5 @@ abbrev pub region_slots : Coherent → Slots
 region_slots r = record { start = r.slot; count = pages_of r.len }
 
 -- the slots that are taken after some acts
-abbrev pub taken : List Act → List Slots
-taken acts = map mapping_slots (live acts) ++ map region_slots (live_regions acts)
+abbrev pub taken_slots : List Act → List Slots
+taken_slots acts = map mapping_slots (live_mappings acts) ++ map region_slots (live_regions acts)

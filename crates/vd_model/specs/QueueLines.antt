@@ -2,7 +2,7 @@
 use Rattle.std.specs.Prelude.{ℕ, List, [], ◌∷◌, codes, decimal, map, Option, find}
 use Rattle.std.specs.Str.{bytes_eq}
 use Rattle.vd_model.specs.Fields.{u64_field, u32_field, u16_field}
-use Rattle.vd_model.specs.Forms.{Form, ◌▹◌, wrapped, one, two, parts_form, submit_form}
+use Rattle.vd_model.specs.Forms.{Form, ◌▹◌, form_as, one_field, two_fields, parts_form, submit_form}
 use Rattle.vd_model.specs.Text.{part_text, submit_text}
 use Rattle.vd_model.specs.declared.word.TheConstants.{ALL_QUEUE_WORDS}
 use Rattle.vd_model.specs.declared.word.QueueWord.{QueueWord}
@@ -29,16 +29,16 @@ queue_word w = find (λ k. bytes_eq w (queue_word_text k)) ALL_QUEUE_WORDS
 
 -- what stands behind the word and the device's name
 abbrev pub queue_form : QueueWord → Form QueueStep
-queue_form words.Walk = two u32_field u16_field Walk
-queue_form words.Fetch = one u32_field Fetch
-queue_form words.Execute = one u32_field Execute
-queue_form words.Finish = one u32_field Finish
-queue_form words.Ring = two u32_field u64_field Ring
-queue_form words.Unring = one u32_field Unring
-queue_form words.Add = u32_field ▹ λ q. wrapped (Add q) parts_form
-queue_form words.Publish = one u32_field Publish
-queue_form words.Submit = u32_field ▹ λ q. wrapped (Submit q) submit_form
-queue_form words.Poll = one u32_field Poll
+queue_form words.Walk = two_fields u32_field u16_field Walk
+queue_form words.Fetch = one_field u32_field Fetch
+queue_form words.Execute = one_field u32_field Execute
+queue_form words.Finish = one_field u32_field Finish
+queue_form words.Ring = two_fields u32_field u64_field Ring
+queue_form words.Unring = one_field u32_field Unring
+queue_form words.Add = u32_field ▹ λ q. form_as (Add q) parts_form
+queue_form words.Publish = one_field u32_field Publish
+queue_form words.Submit = u32_field ▹ λ q. form_as (Submit q) submit_form
+queue_form words.Poll = one_field u32_field Poll
 
 -- the words of a step's line, without the device's name
 abbrev pub queue_text : QueueStep → List (List ℕ)

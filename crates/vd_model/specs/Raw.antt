@@ -22,12 +22,12 @@ abbrev pub are_zero : List ℕ → Bool
 are_zero bytes = list_all (λ byte. byte == 0) bytes
 
 -- the bytes with zeros behind them, n in all
-abbrev pub padded : ℕ → List ℕ → List ℕ
-padded n bytes = bytes ++ replicate (n - length bytes) 0
+abbrev pub with_padding : ℕ → List ℕ → List ℕ
+with_padding n bytes = bytes ++ replicate (n - length bytes) 0
 
 -- some value, where a test of the bytes holds
-abbrev pub only : {X : Type 0} → Bool → X → Option X
-only test value = if test then Some value else None
+abbrev pub some_if : {X : Type 0} → Bool → X → Option X
+some_if test value = if test then Some value else None
 
 -- ---- messages
 
@@ -44,7 +44,7 @@ union_of (body.Iotlb range) = little_bytes 8 range.start ++ little_bytes 8 range
 
 -- struct vduse_dev_request: type, request_id, reserved, and the union
 abbrev pub request_bytes : ℕ → Body → List ℕ
-request_bytes id body = padded 152 (little_bytes 4 (kind_of body) ++ little_bytes 4 id ++ replicate 16 0 ++ union_of body)
+request_bytes id body = with_padding 152 (little_bytes 4 (kind_of body) ++ little_bytes 4 id ++ replicate 16 0 ++ union_of body)
 
 -- struct vduse_dev_response: request_id, result, reserved, and the union with a queue's index and available index
 abbrev pub response_step : List ℕ → NodeStep
@@ -67,10 +67,10 @@ config_step bytes =
 -- the plain line that a raw line of the control node stands for: a version, a creation or a destruction
 abbrev pub control_step : ℕ → List ℕ → Option ControlStep
 control_step number bytes =
-    if number == 1 then only (length bytes == 8) (control.SetVersion (field_at 8 bytes 0))
-    else if number == 2 then only (is_config bytes) (config_step bytes)
-    else if number == 3 then only (length bytes == 256) (control.Destroy (name_in bytes))
-    else if number == 0 then only (length bytes == 0) control.Version
+    if number == 1 then some_if (length bytes == 8) (control.SetVersion (field_at 8 bytes 0))
+    else if number == 2 then some_if (is_config bytes) (config_step bytes)
+    else if number == 3 then some_if (length bytes == 256) (control.Destroy (name_in bytes))
+    else if number == 0 then some_if (length bytes == 0) control.Version
     else None
 
 -- ---- the device node
@@ -94,21 +94,21 @@ is_three_numbers bytes = (length bytes == 48) && are_zero (drop 24 bytes)
 
 abbrev pub ioctl_of : ℕ → List ℕ → Option Ioctl
 ioctl_of number bytes =
-    if number == 0x10 then only (length bytes == 32) (Find_entry (field_at 8 bytes 8) (field_at 8 bytes 16))
-    else if number == 0x11 then only (length bytes == 0) Tell_features
-    else if number == 0x12 then only (is_config_data bytes) (Plain_node (node.SetConfig (field_at 4 bytes 0) (drop 8 bytes)))
-    else if number == 0x13 then only (length bytes == 0) (Plain_node node.ConfigIrq)
-    else if number == 0x14 then only ((length bytes == 32) && are_zero (drop 6 bytes)) (Plain_node (node.VqSetup (field_at 4 bytes 0) (field_at 2 bytes 4)))
-    else if number == 0x17 then only (length bytes == 4) (Plain_node (node.Irq (field_at 4 bytes 0)))
-    else if number == 0x18 then only (is_three_numbers bytes) (Plain_area (area.RegUmem (field_at 8 bytes 0) (field_at 8 bytes 8) (field_at 8 bytes 16)))
-    else if number == 0x19 then only (is_three_numbers bytes) (Plain_area (area.DeregUmem (field_at 8 bytes 8) (field_at 8 bytes 16)))
-    else if number == 0x1a then only (is_three_numbers bytes) (Find_info (field_at 8 bytes 0) (field_at 8 bytes 8))
+    if number == 0x10 then some_if (length bytes == 32) (Find_entry (field_at 8 bytes 8) (field_at 8 bytes 16))
+    else if number == 0x11 then some_if (length bytes == 0) Tell_features
+    else if number == 0x12 then some_if (is_config_data bytes) (Plain_node (node.SetConfig (field_at 4 bytes 0) (drop 8 bytes)))
+    else if number == 0x13 then some_if (length bytes == 0) (Plain_node node.ConfigIrq)
+    else if number == 0x14 then some_if ((length bytes == 32) && are_zero (drop 6 bytes)) (Plain_node (node.VqSetup (field_at 4 bytes 0) (field_at 2 bytes 4)))
+    else if number == 0x17 then some_if (length bytes == 4) (Plain_node (node.Irq (field_at 4 bytes 0)))
+    else if number == 0x18 then some_if (is_three_numbers bytes) (Plain_area (area.RegUmem (field_at 8 bytes 0) (field_at 8 bytes 8) (field_at 8 bytes 16)))
+    else if number == 0x19 then some_if (is_three_numbers bytes) (Plain_area (area.DeregUmem (field_at 8 bytes 8) (field_at 8 bytes 16)))
+    else if number == 0x1a then some_if (is_three_numbers bytes) (Find_info (field_at 8 bytes 0) (field_at 8 bytes 8))
     else None
 
 -- struct vduse_iotlb_entry: offset, start, last and permission
 abbrev pub entry_bytes : Region → List ℕ
-entry_bytes r = padded 32 (little_bytes 8 r.offset ++ little_bytes 8 r.start ++ little_bytes 8 r.last ++ r.perm ∷ [])
+entry_bytes r = with_padding 32 (little_bytes 8 r.offset ++ little_bytes 8 r.start ++ little_bytes 8 r.last ++ r.perm ∷ [])
 
 -- struct vduse_iova_info: start, last and capability
 abbrev pub info_bytes : Region → ℕ → List ℕ
-info_bytes r capability = padded 48 (little_bytes 8 r.start ++ little_bytes 8 r.last ++ little_bytes 8 capability)
+info_bytes r capability = with_padding 48 (little_bytes 8 r.start ++ little_bytes 8 r.last ++ little_bytes 8 capability)

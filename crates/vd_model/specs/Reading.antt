@@ -1,7 +1,7 @@
 -- What a script says: its lines, and the step that each line says.
 use Rattle.std.specs.Prelude.{ℕ, ◌==◌, List, [], ◌∷◌, if◌then◌else◌, Option, Some, None, option_and_then, option_map}
 use Rattle.vd_model.specs.Fields.{name_field}
-use Rattle.vd_model.specs.Forms.{Form, cut_at, ◌▹◌, wrapped}
+use Rattle.vd_model.specs.Forms.{Form, cut_at, ◌▹◌, form_as}
 use Rattle.vd_model.specs.ControlLines.{control_word, control_form}
 use Rattle.vd_model.specs.NodeLines.{node_word, node_form}
 use Rattle.vd_model.specs.AreaLines.{area_word, area_form}
@@ -41,12 +41,12 @@ keyword w =
 
 -- what stands behind a first word: but for control lines a device's name, and then the word's fields
 abbrev pub form_of : Keyword → Form Step
-form_of (first.Control w) = wrapped Control (control_form w)
-form_of (first.Node w) = name_field ▹ λ d. wrapped (λ s. Device d (Node s)) (node_form w)
-form_of (first.Area w) = name_field ▹ λ d. wrapped (λ s. Device d (Area s)) (area_form w)
-form_of (first.Bus w) = name_field ▹ λ d. wrapped (λ s. Device d (Bus s)) (bus_form w)
-form_of (first.Driver w) = name_field ▹ λ d. wrapped (λ s. Device d (Driver s)) (driver_form w)
-form_of (first.Queue w) = name_field ▹ λ d. wrapped (Queue d) (queue_form w)
+form_of (first.Control w) = form_as Control (control_form w)
+form_of (first.Node w) = name_field ▹ λ d. form_as (λ s. Device d (Node s)) (node_form w)
+form_of (first.Area w) = name_field ▹ λ d. form_as (λ s. Device d (Area s)) (area_form w)
+form_of (first.Bus w) = name_field ▹ λ d. form_as (λ s. Device d (Bus s)) (bus_form w)
+form_of (first.Driver w) = name_field ▹ λ d. form_as (λ s. Device d (Driver s)) (driver_form w)
+form_of (first.Queue w) = name_field ▹ λ d. form_as (Queue d) (queue_form w)
 
 -- the step that the words of a line say
 unfoldable pub step_form : Form Step

@@ -3,7 +3,7 @@ use Rattle.std.specs.Prelude.{ℕ, false, List, [], ◌∷◌, ◌++◌, codes, 
 use Rattle.std.specs.Fmt.{digits}
 use Rattle.std.specs.List.{join_with_byte}
 use Rattle.hex.specs.Hex.{encode_lower}
-use Rattle.vd_num.specs.Errno.{number_of}
+use Rattle.vd_num.specs.Errno.{errno_number}
 use Rattle.vd_model.specs.declared.answer.Tag.{Tag}
 use Rattle.vd_model.specs.declared.answer.Tag.TheVariants as tags
 use Rattle.vd_model.specs.declared.answer.Item.{Item}
@@ -85,7 +85,7 @@ first_word (answers.FailedTimeout _ _) = codes "failed"
 -- the words behind it
 abbrev pub words_after : Answer → List (List ℕ)
 words_after (answers.Done items) = map item_text items
-words_after (answers.Err e) = decimal (number_of e) ∷ []
+words_after (answers.Err e) = decimal (errno_number e) ∷ []
 words_after (answers.Bus at) = address_text at ∷ []
 words_after (answers.Chain fault) = kind_text fault.kind ∷ decimal fault.table ∷ decimal fault.index ∷ []
 words_after (answers.Shape readable writable) = decimal readable ∷ decimal writable ∷ []

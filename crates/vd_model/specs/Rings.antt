@@ -55,10 +55,10 @@ abbrev pub available_event_at : RingPlace → ℕ
 available_event_at place = ring_address place.device (4 + 8 * place.size)
 
 -- the number of two bytes
-abbrev pub number_of : Result (List ℕ) ℕ → Result ℕ ℕ
-number_of (Ok bytes) = Ok (field_at 2 bytes 0)
-number_of (Err address) = Err address
+abbrev pub number16_of : Result (List ℕ) ℕ → Result ℕ ℕ
+number16_of (Ok bytes) = Ok (field_at 2 bytes 0)
+number16_of (Err address) = Err address
 
 -- the number at an address, or the first of its two addresses at which no byte stands
 abbrev pub number16 : Memory → ℕ → Result ℕ ℕ
-number16 m at = number_of (read m at 2)
+number16 m at = number16_of (read m at 2)

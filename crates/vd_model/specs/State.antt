@@ -31,26 +31,26 @@ pub data StateAct : Type 0 where
   Cleared : StateAct
 
 -- what a creation fixes: the number of queues, and the features that the device offers
-pub record Made : Type 0 where
+pub record DeviceShape : Type 0 where
   pub queues : ℕ
   pub offered : ℕ
 
 -- there is a queue of this index
-abbrev pub is_queue : Made → ℕ → Bool
+abbrev pub is_queue : DeviceShape → ℕ → Bool
 is_queue made q = nat_lt q made.queues
 
 -- ---- status and features
 
 -- the status that was set last, 0 at first and after a reset
-abbrev pub status_of : List StateAct → ℕ
-status_of [] = 0
-status_of (Status_set value ∷ acts) = value
-status_of (Cleared ∷ acts) = 0
-status_of (_ ∷ acts) = status_of acts
+abbrev pub device_status : List StateAct → ℕ
+device_status [] = 0
+device_status (Status_set value ∷ acts) = value
+device_status (Cleared ∷ acts) = 0
+device_status (_ ∷ acts) = device_status acts
 
 -- the status says that the driver is ready to drive the device
 abbrev pub is_driver_ok : List StateAct → Bool
-is_driver_ok acts = not (bit_and (status_of acts) 4 == 0)
+is_driver_ok acts = not (bit_and (device_status acts) 4 == 0)
 
 -- the features that the driver accepted last, none at first and after a reset
 abbrev pub features_of : List StateAct → ℕ
@@ -60,7 +60,7 @@ features_of (Cleared ∷ acts) = 0
 features_of (_ ∷ acts) = features_of acts
 
 -- the driver may accept these features: each is offered, and the one of the I/O address space, bit 33, is there
-abbrev pub may_accept : Made → ℕ → Bool
+abbrev pub may_accept : DeviceShape → ℕ → Bool
 may_accept made value = (bit_and value made.offered == value) && not (bit_and value (2 ^ 33) == 0)
 
 -- ---- queues
@@ -80,7 +80,7 @@ num_of (_ ∷ acts) q = num_of acts q
 
 -- the driver may choose this size of a queue with this largest one: a power of two up to 32,768
 abbrev pub may_have : ℕ → ℕ → Bool
-may_have max num = is_power_of_two num && nat_le num 32768 && nat_le num max
+may_have max num = nat_le num 32768 && nat_le num max && is_power_of_two num
 
 -- the addresses of a queue's three parts
 pub record Addresses : Type 0 where
@@ -114,8 +114,8 @@ is_ready (Cleared ∷ acts) q = false
 is_ready (_ ∷ acts) q = is_ready acts q
 
 -- all that a question for the queue tells
-abbrev pub info_of : List StateAct → ℕ → QueueInfo
-info_of acts q = record {
+abbrev pub queue_info : List StateAct → ℕ → QueueInfo
+queue_info acts q = record {
   max = max_of acts q;
   num = num_of acts q;
   desc = (addresses_of acts q).desc;
@@ -187,9 +187,9 @@ interrupts_of (Cleared ∷ acts) on = 0
 interrupts_of (_ ∷ acts) on = interrupts_of acts on
 
 -- there is such a queue, or it is the config space
-abbrev pub is_there : Made → QueueOrConfig → Bool
-is_there made Config = true
-is_there made (Queue q) = is_queue made q
+abbrev pub is_queue_or_config : DeviceShape → QueueOrConfig → Bool
+is_queue_or_config made Config = true
+is_queue_or_config made (Queue q) = is_queue made q
 
 -- ---- setting up
 

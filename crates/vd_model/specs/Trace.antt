@@ -30,14 +30,14 @@ is_writable d = bit_and d.flags 2 == 2
 abbrev pub is_indirect : Descriptor → Bool
 is_indirect d = bit_and d.flags 4 == 4
 
-abbrev pub part_of : Descriptor → Part
-part_of d = record { at = d.at; len = d.len; writable = is_writable d }
+abbrev pub descriptor_part : Descriptor → Part
+descriptor_part d = record { at = d.at; len = d.len; writable = is_writable d }
 
 -- A POSITION
 
 -- the address of its descriptor, sixteen bytes for each one before it in the table
-abbrev pub address_of : Position → ℕ
-address_of p = (p.table.at + 16 * p.index) % 2 ^ 64
+abbrev pub descriptor_address : Position → ℕ
+descriptor_address p = (p.table.at + 16 * p.index) % 2 ^ 64
 
 abbrev pub descriptor_from : Result (List ℕ) ℕ → Result Descriptor ℕ
 descriptor_from (Ok bytes) = Ok (descriptor_of bytes)
@@ -45,7 +45,7 @@ descriptor_from (Err address) = Err address
 
 -- the descriptor at a position, or the first address of it at which no byte stands
 abbrev pub descriptor_at : Memory → Position → Result Descriptor ℕ
-descriptor_at m p = descriptor_from (read m (address_of p) 16)
+descriptor_at m p = descriptor_from (read m (descriptor_address p) 16)
 
 -- the position after one with this descriptor: the start of the table that it names, or the next of its own table
 abbrev pub position_after : Position → Descriptor → Option Position
@@ -93,30 +93,30 @@ first_kind negotiated parts seen p d =
 -- THE TRACE, a list of positions with the last one in front
 
 -- where a trace starts: a ring, the head of a chain, and whether indirect tables were negotiated
-pub record Start : Type 0 where
+pub record TraceStart : Type 0 where
   pub ring : RingPlace
   pub head : ℕ
   pub negotiated : Bool
 
-abbrev pub start_of : RingPlace → ℕ → Bool → Start
-start_of ring head negotiated = record { ring = ring; head = head; negotiated = negotiated }
+abbrev pub trace_start : RingPlace → ℕ → Bool → TraceStart
+trace_start ring head negotiated = record { ring = ring; head = head; negotiated = negotiated }
 
 -- the head, in the ring's own table
-abbrev pub first_position : Start → Position
+abbrev pub first_position : TraceStart → Position
 first_position s = record { table = record { number = 0; at = s.ring.desc; entries = s.ring.size }; index = s.head }
 
 -- the parts, and that of a descriptor, unless it names a table
 abbrev pub with_part : List Part → Descriptor → List Part
-with_part parts d = if is_indirect d then parts else parts ++ part_of d ∷ []
+with_part parts d = if is_indirect d then parts else parts ++ descriptor_part d ∷ []
 
-abbrev pub with_read : List Part → Result Descriptor ℕ → List Part
-with_read parts (Ok d) = with_part parts d
-with_read parts (Err address) = parts
+abbrev pub with_part_read : List Part → Result Descriptor ℕ → List Part
+with_part_read parts (Ok d) = with_part parts d
+with_part_read parts (Err address) = parts
 
 -- the parts of the chain at these positions
 abbrev pub parts_at : Memory → List Position → List Part
 parts_at m [] = []
-parts_at m (p ∷ before) = with_read (parts_at m before) (descriptor_at m p)
+parts_at m (p ∷ before) = with_part_read (parts_at m before) (descriptor_at m p)
 
 -- how a trace ends: with a chain, with a fault, or at an address at which no byte stands
 pub data Ending : Type 0 where
@@ -131,12 +131,12 @@ abbrev pub fault_by : Position → Option ChainKind → Option Ending
 fault_by p None = None
 fault_by p (Some kind) = Some (fault_of p kind)
 
-abbrev pub fault_of_read : Start → List Part → List Position → Position → Result Descriptor ℕ → Option Ending
+abbrev pub fault_of_read : TraceStart → List Part → List Position → Position → Result Descriptor ℕ → Option Ending
 fault_of_read s parts positions p (Err address) = Some (missing address)
 fault_of_read s parts positions p (Ok d) = fault_by p (first_kind s.negotiated parts (is_among p.table.number d.next positions) p d)
 
 -- the first test that holds at a position, which comes after others: the head is outside the ring, the descriptor isn't there, or a test of the descriptor
-abbrev pub fault_at : Start → Memory → List Position → Position → Option Ending
+abbrev pub fault_at : TraceStart → Memory → List Position → Position → Option Ending
 fault_at s m before p =
     if nat_le s.ring.size s.head then Some (fault_of p Head)
     else fault_of_read s (parts_at m before) (p ∷ before) p (descriptor_at m p)
@@ -165,26 +165,26 @@ ending_by None None chain = Some (whole chain)
 ending_by None (Some next) chain = None
 
 -- how the trace ends at a position after others, if it ends there: by the first test that holds, or with the chain where none is next
-unfoldable pub ending_at : Start → Memory → List Position → Position → Option Ending
+unfoldable pub ending_at : TraceStart → Memory → List Position → Position → Option Ending
 ending_at s m before p = ending_by (fault_at s m before p) (next_position m p) (chain_of s.head (parts_at m (p ∷ before)))
 
 -- p follows the position r, at which the trace doesn't end
-pub record Follows (s : Start) (m : Memory) (before : List Position) (r p : Position) : Type 0 where
+pub record Follows (s : TraceStart) (m : Memory) (before : List Position) (r p : Position) : Type 0 where
   pub goes_on : ending_at s m before r ≡ None
   pub next : next_position m r ≡ Some p
 
 -- the first position is the head, and each other follows the one before it
-abbrev pub IsTrace : Start → Memory → List Position → Type 0
+abbrev pub IsTrace : TraceStart → Memory → List Position → Type 0
 IsTrace s m [] = ⊥
 IsTrace s m (p ∷ []) = p ≡ first_position s
 IsTrace s m (p ∷ r ∷ before) = IsTrace s m (r ∷ before) × Follows s m before r p
 
 -- the trace ends so
-abbrev pub Ends : Start → Memory → Ending → Type 0
-Ends s m e = (p : Position) × (before : List Position) × IsTrace s m (p ∷ before) × (ending_at s m before p ≡ Some e)
+abbrev pub EndsAs : TraceStart → Memory → Ending → Type 0
+EndsAs s m e = (p : Position) × (before : List Position) × IsTrace s m (p ∷ before) × (ending_at s m before p ≡ Some e)
 
 -- how the trace that comes to a position after others ends, if it does within n positions
-unfoldable pub ending_within : ℕ → Start → Memory → List Position → Position → Option Ending
+unfoldable pub ending_within : ℕ → TraceStart → Memory → List Position → Position → Option Ending
 ending_within zero s m before p = None
 ending_within (suc n) s m before p = elim (ending_at s m before p) [
   | Some end ↦ Some end
@@ -195,5 +195,5 @@ ending_within (suc n) s m before p = elim (ending_at s m before p) [
 ]
 
 -- how the trace ends, which it does before it has come to 65,537 positions and as many more as the ring has descriptors
-abbrev pub ending_of : Start → Memory → Ending
+abbrev pub ending_of : TraceStart → Memory → Ending
 ending_of s m = unwrap_or (ending_within (65537 + s.ring.size) s m [] (first_position s)) (missing 0)

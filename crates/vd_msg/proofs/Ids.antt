@@ -3,7 +3,7 @@ use Rattle.std.proofs.Common.{◌≡◌, ℕ, suc, ◌+◌, ◌<◌, ◌≤◌, 
 use Rattle.std.specs.List.{list_any, list_all}
 use Rattle.std.specs.Option.{is_some}
 use Rattle.std.proofs.lemmas.Bool.Decides.{nat_tests}
-use Rattle.vd_msg.specs.Lists.{without, count_of}
+use Rattle.vd_msg.specs.Lists.{without_first, count_of}
 
 -- 1 for a test that holds
 abbrev pub one_if : Bool → ℕ
@@ -55,18 +55,18 @@ found_passes {X} p (y ∷ xs) x e = by (p y) refl (found_passes p xs x) e where
   by false is rest f = rest f
 
 -- counts and lengths without what was found
-pub count-without : {X : Type 0} (p q : X → Bool) (xs : List X) (x : X) → find p xs ≡ Some x → count_of q xs ≡ cond (q x) 1 0 + count_of q (without p xs)
+pub count-without : {X : Type 0} (p q : X → Bool) (xs : List X) (x : X) → find p xs ≡ Some x → count_of q xs ≡ cond (q x) 1 0 + count_of q (without_first p xs)
 count-without p q [] x e = cc
 count-without {X} p q (y ∷ xs) x e = by (p y) (count-without p q xs x) e where
-  by : (b : Bool) → (find p xs ≡ Some x → count_of q xs ≡ cond (q x) 1 0 + count_of q (without p xs)) → cond b (Some y) (find p xs) ≡ Some x
-      → cond (q y) 1 0 + count_of q xs ≡ cond (q x) 1 0 + count_of q (cond b xs (y ∷ without p xs))
+  by : (b : Bool) → (find p xs ≡ Some x → count_of q xs ≡ cond (q x) 1 0 + count_of q (without_first p xs)) → cond b (Some y) (find p xs) ≡ Some x
+      → cond (q y) 1 0 + count_of q xs ≡ cond (q x) 1 0 + count_of q (cond b xs (y ∷ without_first p xs))
   by true rest f = let same : y ≡ x = cc in ap (λ z. cond (q z) 1 0 + count_of q xs) same
   by false rest f = let r = rest f in omega arith
 
-pub length-without : {X : Type 0} (p : X → Bool) (xs : List X) (x : X) → find p xs ≡ Some x → length xs ≡ 1 + length (without p xs)
+pub length-without : {X : Type 0} (p : X → Bool) (xs : List X) (x : X) → find p xs ≡ Some x → length xs ≡ 1 + length (without_first p xs)
 length-without p [] x e = cc
 length-without {X} p (y ∷ xs) x e = by (p y) (length-without p xs x) e where
-  by : (b : Bool) → (find p xs ≡ Some x → length xs ≡ 1 + length (without p xs)) → cond b (Some y) (find p xs) ≡ Some x → suc (length xs) ≡ 1 + length (cond b xs (y ∷ without p xs))
+  by : (b : Bool) → (find p xs ≡ Some x → length xs ≡ 1 + length (without_first p xs)) → cond b (Some y) (find p xs) ≡ Some x → suc (length xs) ≡ 1 + length (cond b xs (y ∷ without_first p xs))
   by true rest f = omega arith
   by false rest f = let r = rest f in omega arith
 
@@ -78,11 +78,11 @@ filter_all {X} p (x ∷ xs) e = by (p x) (filter_all p xs) e where
   by true rest f = cc
   by false rest f = ap (λ l. x ∷ l) (rest f)
 
-pub filter_one : {X : Type 0} (p : X → Bool) (xs : List X) → count_of p xs ≤ 1 → filter (λ x. not (p x)) xs ≡ without p xs
+pub filter_one : {X : Type 0} (p : X → Bool) (xs : List X) → count_of p xs ≤ 1 → filter (λ x. not (p x)) xs ≡ without_first p xs
 filter_one p [] few = refl
 filter_one {X} p (x ∷ xs) few = by (p x) (filter_one p xs) few where
-  by : (b : Bool) → (count_of p xs ≤ 1 → filter (λ x. not (p x)) xs ≡ without p xs) → cond b 1 0 + count_of p xs ≤ 1
-      → cond (not b) (x ∷ filter (λ x. not (p x)) xs) (filter (λ x. not (p x)) xs) ≡ cond b xs (x ∷ without p xs)
+  by : (b : Bool) → (count_of p xs ≤ 1 → filter (λ x. not (p x)) xs ≡ without_first p xs) → cond b 1 0 + count_of p xs ≤ 1
+      → cond (not b) (x ∷ filter (λ x. not (p x)) xs) (filter (λ x. not (p x)) xs) ≡ cond b xs (x ∷ without_first p xs)
   by true rest f = filter_all p xs (any_counted p xs ∙ grind (arith, nat_tests))
   by false rest f = ap (λ l. x ∷ l) (rest (omega arith))
 
@@ -100,10 +100,10 @@ find-append {X} p (x ∷ xs) ys = by (p x) (find-append p xs ys) where
   by false rest = rest
 
 -- another search doesn't see what was taken out
-pub find-without : {X : Type 0} (p q : X → Bool) (xs : List X) → ((x : X) → p x ≡ true → q x ≡ false) → find q (without p xs) ≡ find q xs
+pub find-without : {X : Type 0} (p q : X → Bool) (xs : List X) → ((x : X) → p x ≡ true → q x ≡ false) → find q (without_first p xs) ≡ find q xs
 find-without p q [] apart = refl
 find-without {X} p q (x ∷ xs) apart = by (p x) refl (find-without p q xs apart) where
-  by : (b : Bool) → p x ≡ b → find q (without p xs) ≡ find q xs → find q (cond b xs (x ∷ without p xs)) ≡ cond (q x) (Some x) (find q xs)
+  by : (b : Bool) → p x ≡ b → find q (without_first p xs) ≡ find q xs → find q (cond b xs (x ∷ without_first p xs)) ≡ cond (q x) (Some x) (find q xs)
   by true is rest = ap (λ b. cond b (Some x) (find q xs)) (sym (apart x is))
   by false is rest = ap (λ o. cond (q x) (Some x) o) rest
 
@@ -115,13 +115,13 @@ all_found {X} p q (y ∷ xs) x all e = by (p y) refl (q y) (all_found p q xs x) 
   by true is true rest f g = let same : y ≡ x = cc in subst (λ z. p z ≡ true) same is
   by true is false rest f g = rest f g
 
-pub all_without : {X : Type 0} (p q : X → Bool) (xs : List X) → list_all p xs ≡ true → list_all p (without q xs) ≡ true
+pub all_without : {X : Type 0} (p q : X → Bool) (xs : List X) → list_all p xs ≡ true → list_all p (without_first q xs) ≡ true
 all_without p q [] all = refl
 all_without {X} p q (y ∷ xs) all = by (p y) refl (q y) (all_without p q xs) all where
-  by : (a : Bool) → p y ≡ a → (b : Bool) → (list_all p xs ≡ true → list_all p (without q xs) ≡ true) → (a && list_all p xs) ≡ true → list_all p (cond b xs (y ∷ without q xs)) ≡ true
+  by : (a : Bool) → p y ≡ a → (b : Bool) → (list_all p xs ≡ true → list_all p (without_first q xs) ≡ true) → (a && list_all p xs) ≡ true → list_all p (cond b xs (y ∷ without_first q xs)) ≡ true
   by false is b rest f = cc
   by true is true rest f = f
-  by true is false rest f = ap (λ a. a && list_all p (without q xs)) is ∙ rest f
+  by true is false rest f = ap (λ a. a && list_all p (without_first q xs)) is ∙ rest f
 
 -- a count above 0 and one of 0 as tests
 pub some_counted : {X : Type 0} (p : X → Bool) (xs : List X) → 0 < count_of p xs → list_any p xs ≡ true

@@ -5,31 +5,31 @@ use Rattle.std.proofs.lemmas.Bool.Decides.{nat_tests}
 use Rattle.vd_model.specs.declared.message.Message.{Message}
 use Rattle.vd_model.specs.declared.message.TakeAnswer.{TakeAnswer}
 use Rattle.vd_model.specs.declared.message.TakeAnswer.TheVariants.{Pending, Done, FailedByReply, FailedByTimeout, Unknown}
-use Rattle.vd_model.specs.Messages.{MessageAct, Sent, Received, Answered, Elapsed, MessageCall, Timing, Sending, Receiving, Answering, Losing, Ticking, Taking, Start, outstanding, outstanding_as, is_other, is_broken, is_received, is_held, breaks, next, next_id, id_limit, message_of, told, take_acts, call_acts, run, answers_to}
+use Rattle.vd_model.specs.Messages.{MessageAct, Sent, Received, Answered, Elapsed, MessageCall, Timing, Sending, Receiving, Answering, Losing, Ticking, Taking, MessageStart, outstanding, outstanding_as, is_other_message, is_broken, is_received, is_held, breaks, next_message, next_id, id_limit, message_of, message_told, take_acts, call_acts, message_run, answers_to}
 use Rattle.vd_msg.specs.Lists.{has_id, count_of}
 use Rattle.vd_msg.proofs.Ids.{one_if, find_is_any, counted_some, count_of-append}
 
 -- each id below the next one is outstanding or answered once at most, and no other id is
-record IsOrderly (start : Start) (acts : List MessageAct) : Type 0 where
+record IsOrderly (start : MessageStart) (acts : List MessageAct) : Type 0 where
   once : (id : ℕ) → count_of (has_id id) (outstanding acts) + answers_to id acts ≤ one_if (nat_lt id (next_id start acts))
 
 -- nothing with the id is left once the others are kept
-none_other : (id : ℕ) (ms : List Message) → count_of (has_id id) (filter (is_other id) ms) ≡ 0
+none_other : (id : ℕ) (ms : List Message) → count_of (has_id id) (filter (is_other_message id) ms) ≡ 0
 none_other id [] = refl
 none_other id (m ∷ ms) = by (m.id == id) refl (none_other id ms) where
-  by : (b : Bool) → (m.id == id) ≡ b → count_of (has_id id) (filter (is_other id) ms) ≡ 0 → count_of (has_id id) (cond (not b) (m ∷ filter (is_other id) ms) (filter (is_other id) ms)) ≡ 0
+  by : (b : Bool) → (m.id == id) ≡ b → count_of (has_id id) (filter (is_other_message id) ms) ≡ 0 → count_of (has_id id) (cond (not b) (m ∷ filter (is_other_message id) ms) (filter (is_other_message id) ms)) ≡ 0
   by true e rest = rest
   by false e rest = let n : one_if (m.id == id) ≡ 0 = ap one_if e in omega arith
 
-same_other : (id k : ℕ) → (id == k) ≡ false → (ms : List Message) → count_of (has_id k) (filter (is_other id) ms) ≡ count_of (has_id k) ms
+same_other : (id k : ℕ) → (id == k) ≡ false → (ms : List Message) → count_of (has_id k) (filter (is_other_message id) ms) ≡ count_of (has_id k) ms
 same_other id k apart [] = refl
 same_other id k apart (m ∷ ms) = by (m.id == id) refl (same_other id k apart ms) where
-  by : (b : Bool) → (m.id == id) ≡ b → count_of (has_id k) (filter (is_other id) ms) ≡ count_of (has_id k) ms
-      → count_of (has_id k) (cond (not b) (m ∷ filter (is_other id) ms) (filter (is_other id) ms)) ≡ one_if (m.id == k) + count_of (has_id k) ms
+  by : (b : Bool) → (m.id == id) ≡ b → count_of (has_id k) (filter (is_other_message id) ms) ≡ count_of (has_id k) ms
+      → count_of (has_id k) (cond (not b) (m ∷ filter (is_other_message id) ms) (filter (is_other_message id) ms)) ≡ one_if (m.id == k) + count_of (has_id k) ms
   by true e rest = let n : one_if (m.id == k) ≡ 0 = ap one_if (ap (λ j. j == k) (eqb-true m.id id e) ∙ apart) in omega arith
   by false e rest = ap (λ n. one_if (m.id == k) + n) rest
 
-module _ (start : Start) (acts : List MessageAct) (o : IsOrderly start acts) where
+module _ (start : MessageStart) (acts : List MessageAct) (o : IsOrderly start acts) where
   sent_orderly : (m : Message) → m.id ≡ next_id start acts → IsOrderly start (Sent m ∷ acts)
   sent_orderly m is = record {
     once = λ id. let one = o.once id in let c = count_of-append (has_id id) (outstanding acts) (m ∷ []) in
@@ -50,11 +50,11 @@ module _ (start : Start) (acts : List MessageAct) (o : IsOrderly start acts) whe
     there : 0 < count_of (has_id id) (outstanding acts)
     there = counted_some (has_id id) (outstanding acts) (sym (find_is_any (has_id id) (outstanding acts)) ∙ is_there (is_some (outstanding_as acts id)) held)
 
-    this : count_of (has_id id) (filter (is_other id) (outstanding acts)) + (one_if (id == id) + answers_to id acts) ≤ one_if (nat_lt id (next_id start acts))
+    this : count_of (has_id id) (filter (is_other_message id) (outstanding acts)) + (one_if (id == id) + answers_to id acts) ≤ one_if (nat_lt id (next_id start acts))
     this = let none = none_other id (outstanding acts) in let one = o.once id in let some = there in let n : one_if (id == id) ≡ 1 = ap one_if (eq-eqb id id refl) in omega arith
 
-    by : (k : ℕ) (b : Bool) → (id == k) ≡ b → count_of (has_id k) (filter (is_other id) (outstanding acts)) + (one_if (id == k) + answers_to k acts) ≤ one_if (nat_lt k (next_id start acts))
-    by k true e = subst (λ j. count_of (has_id j) (filter (is_other id) (outstanding acts)) + (one_if (id == j) + answers_to j acts) ≤ one_if (nat_lt j (next_id start acts))) (eqb-true id k e) this
+    by : (k : ℕ) (b : Bool) → (id == k) ≡ b → count_of (has_id k) (filter (is_other_message id) (outstanding acts)) + (one_if (id == k) + answers_to k acts) ≤ one_if (nat_lt k (next_id start acts))
+    by k true e = subst (λ j. count_of (has_id j) (filter (is_other_message id) (outstanding acts)) + (one_if (id == j) + answers_to j acts) ≤ one_if (nat_lt j (next_id start acts))) (eqb-true id k e) this
     by k false e = let same = same_other id k e (outstanding acts) in let one = o.once k in let n : one_if (id == k) ≡ 0 = ap one_if e in omega arith
 
   ticked_orderly : (now : ℕ) → IsOrderly start (Elapsed now ∷ acts)
@@ -69,7 +69,7 @@ module _ (start : Start) (acts : List MessageAct) (o : IsOrderly start acts) whe
     by : (b : Bool) → IsOrderly start (cond b [] (Sent (message_of start acts body now) ∷ []) ++ acts)
     by true = o
     by false = sent_orderly (message_of start acts body now) refl
-  call_orderly Receiving = by (next acts) where
+  call_orderly Receiving = by (next_message acts) where
     by : (m : Option Message) → IsOrderly start (option_map_or (λ m. Received m.id ∷ []) m [] ++ acts)
     by None = o
     by (Some m) = record { once = o.once }
@@ -79,7 +79,7 @@ module _ (start : Start) (acts : List MessageAct) (o : IsOrderly start acts) whe
     by false e = o
   call_orderly Losing = record { once = o.once }
   call_orderly (Ticking now) = ticked_orderly now
-  call_orderly (Taking id) = by (told acts id) where
+  call_orderly (Taking id) = by (message_told acts id) where
     by : (t : TakeAnswer) → IsOrderly start (take_acts t id ++ acts)
     by Pending = o
     by Unknown = o
@@ -87,13 +87,13 @@ module _ (start : Start) (acts : List MessageAct) (o : IsOrderly start acts) whe
     by (FailedByReply body result) = record { once = o.once }
     by (FailedByTimeout body deadline now) = record { once = o.once }
 
-orderly : (start : Start) (calls : List MessageCall) → IsOrderly start (run start calls)
+orderly : (start : MessageStart) (calls : List MessageCall) → IsOrderly start (message_run start calls)
 orderly start [] = record { once = λ id. omega arith }
-orderly start (call ∷ calls) = call_orderly start (run start calls) (orderly start calls) call
+orderly start (call ∷ calls) = call_orderly start (message_run start calls) (orderly start calls) call
 
 at_most_one : (b : Bool) → one_if b ≤ 1
 at_most_one true = omega arith
 at_most_one false = omega arith
 
-pub answered_once : (start : Start) (calls : List MessageCall) (id : ℕ) → answers_to id (run start calls) ≤ 1
-answered_once start calls id = let one = (orderly start calls).once id in let few = at_most_one (nat_lt id (next_id start (run start calls))) in omega arith
+pub answered_once : (start : MessageStart) (calls : List MessageCall) (id : ℕ) → answers_to id (message_run start calls) ≤ 1
+answered_once start calls id = let one = (orderly start calls).once id in let few = at_most_one (nat_lt id (next_id start (message_run start calls))) in omega arith

@@ -8,7 +8,7 @@ use Rattle.vd_model.specs.declared.message.Body.{Body}
 use Rattle.vd_model.specs.declared.message.Message.{Message}
 use Rattle.vd_model.specs.declared.message.TakeAnswer.{TakeAnswer}
 use Rattle.vd_model.specs.declared.message.TakeAnswer.TheVariants.{Pending}
-use Rattle.vd_model.specs.Messages.{MessageAct, Sent, Received, Lost, Sending, Receiving, Start, message_of, next_id, timeout_of, id_limit, is_received, is_broken, next}
+use Rattle.vd_model.specs.Messages.{MessageAct, Sent, Received, Lost, Sending, Receiving, MessageStart, message_of, next_id, timeout_of, id_limit, is_received, is_broken, next_message}
 use Rattle.vd_msg.specs.Lists.{Lists, has_id, has_ended_id, count_of}
 use Rattle.vd_msg.specs.Stands.{Stands, Makes}
 use Rattle.vd_msg.proofs.Seen.{with_lists}
@@ -41,7 +41,7 @@ all_received r (m ∷ ms) each =
       more true e = refl
       more false e = e
 
-module _ (start : Start) (acts : List MessageAct) (h : Lists) (s : Stands start acts h) where
+module _ (start : MessageStart) (acts : List MessageAct) (h : Lists) (s : Stands start acts h) where
   not_received : (id : ℕ) → h.next ≤ id → is_received acts id ≡ false
   not_received id past = by (is_received acts id) refl where
     by : (b : Bool) → is_received acts id ≡ b → b ≡ false
@@ -137,19 +137,19 @@ module _ (start : Start) (acts : List MessageAct) (h : Lists) (s : Stands start 
         allowed = ap (λ b. b || (next_id start acts == id_limit)) (sym s.broken ∙ fine) ∙ below
 
   -- what is held was received, so the search for the next message begins with those that wait
-  next_is : next acts ≡ find (λ m. not (is_received acts m.id)) h.waiting
-  next_is = ap (find (λ m. not (is_received acts m.id))) s.lists ∙ find_second (λ m. not (is_received acts m.id)) h.held h.waiting (all_received (is_received acts) h.held s.held)
+  next_message_is : next_message acts ≡ find (λ m. not (is_received acts m.id)) h.waiting
+  next_message_is = ap (find (λ m. not (is_received acts m.id))) s.lists ∙ find_second (λ m. not (is_received acts m.id)) h.held h.waiting (all_received (is_received acts) h.held s.held)
 
-  pub next_none : h.waiting ≡ [] → next acts ≡ None
-  next_none none = next_is ∙ ap (find (λ m. not (is_received acts m.id))) none
+  pub next_message_none : h.waiting ≡ [] → next_message acts ≡ None
+  next_message_none none = next_message_is ∙ ap (find (λ m. not (is_received acts m.id))) none
 
-  pub next_some : (m : Message) (rest : List Message) → h.waiting ≡ m ∷ rest → next acts ≡ Some m
-  next_some m rest is = next_is ∙ (ap (find (λ m. not (is_received acts m.id))) is ∙ ap (λ b. cond (not b) (Some m) (find (λ m. not (is_received acts m.id)) rest)) (s.waiting m.id here)) where
+  pub next_message_some : (m : Message) (rest : List Message) → h.waiting ≡ m ∷ rest → next_message acts ≡ Some m
+  next_message_some m rest is = next_message_is ∙ (ap (find (λ m. not (is_received acts m.id))) is ∙ ap (λ b. cond (not b) (Some m) (find (λ m. not (is_received acts m.id)) rest)) (s.waiting m.id here)) where
     here : list_any (has_id m.id) h.waiting ≡ true
     here = ap (list_any (has_id m.id)) is ∙ ap (λ b. b || list_any (has_id m.id) rest) (eq-eqb m.id m.id refl)
 
   pub recv_makes : (m : Message) (rest : List Message) → h.waiting ≡ m ∷ rest → Makes start acts Receiving (with_lists h rest (h.held ++ m ∷ []) h.ended)
-  recv_makes m rest is = subst (λ o. Stands start (option_map_or (λ m. Received m.id ∷ []) o [] ++ acts) (with_lists h rest (h.held ++ m ∷ []) h.ended)) (sym (next_some m rest is)) (received_stands m rest is)
+  recv_makes m rest is = subst (λ o. Stands start (option_map_or (λ m. Received m.id ∷ []) o [] ++ acts) (with_lists h rest (h.held ++ m ∷ []) h.ended)) (sym (next_message_some m rest is)) (received_stands m rest is)
 
   pub recv_nothing : h.waiting ≡ [] → Makes start acts Receiving h
-  recv_nothing none = subst (λ o. Stands start (option_map_or (λ m. Received m.id ∷ []) o [] ++ acts) h) (sym (next_none none)) s
+  recv_nothing none = subst (λ o. Stands start (option_map_or (λ m. Received m.id ∷ []) o [] ++ acts) h) (sym (next_message_none none)) s

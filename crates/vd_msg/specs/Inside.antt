@@ -16,13 +16,13 @@ lists_of m = record {
 }
 
 -- the messages that are kept
-abbrev pub kept : Inside → ℕ
-kept m = deque_len m.held + deque_len m.waiting + deque_len m.ended
+abbrev pub kept_count : Inside → ℕ
+kept_count m = deque_len m.held + deque_len m.waiting + deque_len m.ended
 
 -- each list has room for all that is kept, which has an id below the next
 pub record HasRoom (m : Inside) : Type 0 where
-  pub ids : kept m ≤ m.next
-  pub few : kept m ≤ m.room
+  pub ids : kept_count m ≤ m.next
+  pub few : kept_count m ≤ m.room
   pub waiting : m.room ≤ deque_capacity m.waiting
   pub held : m.room ≤ deque_capacity m.held
   pub ended : m.room ≤ deque_capacity m.ended

@@ -27,9 +27,9 @@ abbrev pub has_ended_id : ℕ → Ended → Bool
 has_ended_id id e = e.id == id
 
 -- the list without the first element that passes
-abbrev pub without : {X : Type 0} → (X → Bool) → List X → List X
-without test [] = []
-without test (x ∷ xs) = if test x then xs else x ∷ without test xs
+abbrev pub without_first : {X : Type 0} → (X → Bool) → List X → List X
+without_first test [] = []
+without_first test (x ∷ xs) = if test x then xs else x ∷ without_first test xs
 
 -- how many elements pass
 abbrev pub count_of : {X : Type 0} → (X → Bool) → List X → ℕ
@@ -37,8 +37,8 @@ count_of test [] = 0
 count_of test (x ∷ xs) = (if test x then 1 else 0) + count_of test xs
 
 -- a message that fails by a timeout
-abbrev pub failed : ℕ → ℕ → Message → Ended
-failed deadline now m = record { id = m.id; told = FailedByTimeout m.body deadline now }
+abbrev pub timeout_end : ℕ → ℕ → Message → Ended
+timeout_end deadline now m = record { id = m.id; told = FailedByTimeout m.body deadline now }
 
 -- the message ended
 abbrev pub is_final : TakeAnswer → Bool
@@ -65,7 +65,7 @@ abbrev pub due_deadline : ℕ → Message → Option ℕ
 due_deadline now m = if is_due now m then Some (deadline_of m) else None
 
 -- the lesser of two numbers that may be absent
-abbrev pub lesser : Option ℕ → Option ℕ → Option ℕ
-lesser None n = n
-lesser (Some k) None = Some k
-lesser (Some k) (Some n) = Some (min k n)
+abbrev pub min_option : Option ℕ → Option ℕ → Option ℕ
+min_option None n = n
+min_option (Some k) None = Some k
+min_option (Some k) (Some n) = Some (min k n)

@@ -1,5 +1,5 @@
-//! The control messages of one device, in two lists: those that wait for the daemon and those that
-//! its session holds.
+//! The control messages of one device, in three lists: those that wait for the daemon, those that
+//! its session holds, and those that have ended and weren't taken.
 //!
 //! It stands on the numbers and the model. Each call makes the act that the model's definition
 //! gives it after any earlier ones, and answers what follows from these acts, for every list of

@@ -3,8 +3,8 @@
 ghost use Rattle.std.specs.Prelude.{◌≡◌, ◌+◌, ◌*◌, ◌-◌, ◌<◌, ◌≤◌, [], ◌++◌, IfOk, find, map, position, is_some, ◌^◌, fold, if◌then◌else◌};
 ghost use Rattle.std.specs.List.{list_any};
 ghost use Rattle.std.specs.VecDeque.{deque_len, deque_capacity};
-ghost use Rattle.vd_model.specs.Messages.{replied};
-ghost use Rattle.vd_msg.specs.Lists.{has_id, has_ended_id, without, failed, lesser, due_deadline};
+ghost use Rattle.vd_model.specs.Messages.{reply_answer};
+ghost use Rattle.vd_msg.specs.Lists.{has_id, has_ended_id, without_first, timeout_end, min_option, due_deadline};
 
 use std::alloc::AllocError;
 use std::collections::VecDeque;
@@ -42,7 +42,7 @@ fn ended_place_of(list: &VecDeque<Ended>, id: u32) -> Option<usize>
 /// Takes the first message with the id out of the list.
 pub fn take_message(list: &mut VecDeque<Message>, id: u32) -> Option<Message>
     ensures found { result ≡ find (has_id id) list.old.items }
-    ensures rest { list.new.items ≡ without (has_id id) list.old.items }
+    ensures rest { list.new.items ≡ without_first (has_id id) list.old.items }
     ensures len { deque_len list.new + (if is_some result then 1 else 0) ≡ deque_len list.old }
     ensures capacity { deque_capacity list.new ≡ deque_capacity list.old }
 {
@@ -55,7 +55,7 @@ pub fn take_message(list: &mut VecDeque<Message>, id: u32) -> Option<Message>
 /// Takes the first ended message with the id out of the list.
 pub fn take_ended(list: &mut VecDeque<Ended>, id: u32) -> Option<Ended>
     ensures found { result ≡ find (has_ended_id id) list.old.items }
-    ensures rest { list.new.items ≡ without (has_ended_id id) list.old.items }
+    ensures rest { list.new.items ≡ without_first (has_ended_id id) list.old.items }
     ensures len { deque_len list.new + (if is_some result then 1 else 0) ≡ deque_len list.old }
     ensures capacity { deque_capacity list.new ≡ deque_capacity list.old }
 {
@@ -67,7 +67,7 @@ pub fn take_ended(list: &mut VecDeque<Ended>, id: u32) -> Option<Ended>
 
 /// How an accepted answer ends a message.
 pub fn ended_by(message: &Message, code: u32, avail: u16) -> TakeAnswer
-    ensures { result ≡ replied message.now code avail }
+    ensures { result ≡ reply_answer message.now code avail }
 {
     let body = message.body;
     if code == 0 {
@@ -89,7 +89,7 @@ fn due(message: &Message, now: u64) -> Option<u64>
 
 /// The earlier of two moments that may be absent.
 fn earlier(a: Option<u64>, b: Option<u64>) -> Option<u64>
-    ensures { result ≡ lesser a b }
+    ensures { result ≡ min_option a b }
 {
     match (a, b) {
         (Some(a), Some(b)) => Some(a.min(b)),
@@ -100,7 +100,7 @@ fn earlier(a: Option<u64>, b: Option<u64>) -> Option<u64>
 
 /// The earliest of a moment and the deadlines of the list that are due.
 pub fn earliest_due(list: &VecDeque<Message>, now: u64, before: Option<u64>) -> Option<u64>
-    ensures { result ≡ fold (λ least m. lesser least (due_deadline now m)) before list.now.items }
+    ensures { result ≡ fold (λ least m. min_option least (due_deadline now m)) before list.now.items }
 {
     list.iter()
         .fold(before, |least, m| earlier(least, due(m, now)))
@@ -122,7 +122,7 @@ pub fn requeue(waiting: &mut VecDeque<Message>, held: &mut VecDeque<Message>)
 pub fn fail_all(list: &mut VecDeque<Message>, ended: &mut VecDeque<Ended>, deadline: u64, now: u64)
     requires { deque_len list.old + deque_len ended.old ≤ deque_capacity ended.old }
     ensures none { list.new.items ≡ [] }
-    ensures all { ended.new.items ≡ ended.old.items ++ map (failed deadline now) list.old.items }
+    ensures all { ended.new.items ≡ ended.old.items ++ map (timeout_end deadline now) list.old.items }
     ensures lens { (deque_len list.new ≡ 0) × (deque_len ended.new ≡ deque_len ended.old + deque_len list.old) }
     ensures capacity { (deque_capacity list.new ≡ deque_capacity list.old) × (deque_capacity ended.new ≡ deque_capacity ended.old) }
 {

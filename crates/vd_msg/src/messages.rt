@@ -66,7 +66,7 @@ impl Model for Messages {
 impl Messages {
     ghost use Rattle.vd_model.specs.Messages as acts;
     ghost use Rattle.vd_model.specs.Messages.{MessageAct};
-    ghost use Rattle.vd_model.specs.Messages.{Start};
+    ghost use Rattle.vd_model.specs.Messages.{MessageStart};
     ghost use Rattle.vd_msg.specs.Stands.{Stands, Makes, SendsExactly, sent_of};
 
     /// No messages yet. The first one gets this timeout, in seconds and 0 for none, and this id.
@@ -86,7 +86,7 @@ impl Messages {
 
     /// Sets the timeout of the messages that are sent later, in seconds and 0 for none.
     pub fn set_timeout(&mut self, timeout: u32)
-        ensures { (start : Start) (done : List MessageAct) → Stands start done self.old →
+        ensures { (start : MessageStart) (done : List MessageAct) → Stands start done self.old →
             Makes start done (acts.Timing timeout) self.new }
     {
         self.timeout = timeout;
@@ -94,7 +94,7 @@ impl Messages {
 
     /// Sends a message, which waits for a receive then, and gives its id.
     pub fn send(&mut self, body: Body, now: u64) -> Result<u32, SendError>
-        ensures says { (start : Start) (done : List MessageAct) → Stands start done self.old →
+        ensures says { (start : MessageStart) (done : List MessageAct) → Stands start done self.old →
             SendsExactly start done body now result self.new }
         ensures err { OnErr result (self.new ≡ self.old) }
     {
@@ -123,9 +123,9 @@ impl Messages {
 
     /// Gives the session the first message that waits.
     pub fn recv(&mut self) -> Option<Sent>
-        ensures says { (start : Start) (done : List MessageAct) → Stands start done self.old →
-            result ≡ option_map sent_of (acts.next done) }
-        ensures stands { (start : Start) (done : List MessageAct) → Stands start done self.old →
+        ensures says { (start : MessageStart) (done : List MessageAct) → Stands start done self.old →
+            result ≡ option_map sent_of (acts.next_message done) }
+        ensures stands { (start : MessageStart) (done : List MessageAct) → Stands start done self.old →
             Makes start done acts.Receiving self.new }
     {
         let message = match self.waiting.pop_front() {
@@ -141,9 +141,9 @@ impl Messages {
 
     /// Answers a message that the session holds.
     pub fn answer(&mut self, id: u32, code: u32, avail: u16) -> Result<(), NotHeld>
-        ensures says { (start : Start) (done : List MessageAct) → Stands start done self.old →
+        ensures says { (start : MessageStart) (done : List MessageAct) → Stands start done self.old →
             is_ok result ≡ acts.is_held done id }
-        ensures stands { (start : Start) (done : List MessageAct) → Stands start done self.old →
+        ensures stands { (start : MessageStart) (done : List MessageAct) → Stands start done self.old →
             Makes start done (acts.Answering id code avail) self.new }
     {
         let message = match take_message(&mut self.held, id) {
@@ -157,7 +157,7 @@ impl Messages {
 
     /// Takes what the session holds back from it: it is received again before all that waits.
     pub fn lost(&mut self)
-        ensures { (start : Start) (done : List MessageAct) → Stands start done self.old →
+        ensures { (start : MessageStart) (done : List MessageAct) → Stands start done self.old →
             Makes start done acts.Losing self.new }
     {
         requeue(&mut self.waiting, &mut self.held);
@@ -165,7 +165,7 @@ impl Messages {
 
     /// Tells the time. Where an outstanding message is due, all of them fail and the device is broken.
     pub fn tick(&mut self, now: u64)
-        ensures { (start : Start) (done : List MessageAct) → Stands start done self.old →
+        ensures { (start : MessageStart) (done : List MessageAct) → Stands start done self.old →
             Makes start done (acts.Ticking now) self.new }
     {
         let least = earliest_due(&self.held, now, None);
@@ -181,9 +181,9 @@ impl Messages {
 
     /// Takes the result of a message: once, except that a pending one is still there.
     pub fn take(&mut self, id: u32) -> TakeAnswer
-        ensures says { (start : Start) (done : List MessageAct) → Stands start done self.old →
-            result ≡ acts.told done id }
-        ensures stands { (start : Start) (done : List MessageAct) → Stands start done self.old →
+        ensures says { (start : MessageStart) (done : List MessageAct) → Stands start done self.old →
+            result ≡ acts.message_told done id }
+        ensures stands { (start : MessageStart) (done : List MessageAct) → Stands start done self.old →
             Makes start done (acts.Taking id) self.new }
     {
         if has(&self.held, id) || has(&self.waiting, id) {
@@ -197,7 +197,7 @@ impl Messages {
 
     /// How many messages were sent and not taken with a final answer.
     pub fn untaken(&self) -> u64
-        ensures { (start : Start) (done : List MessageAct) → Stands start done self.now →
+        ensures { (start : MessageStart) (done : List MessageAct) → Stands start done self.now →
             result ≡ acts.untaken done }
     {
         (self.held.len() + self.waiting.len() + self.ended.len()) as u64
@@ -205,7 +205,7 @@ impl Messages {
 
     /// Whether a tick broke the device.
     pub fn broken(&self) -> bool
-        ensures { (start : Start) (done : List MessageAct) → Stands start done self.now →
+        ensures { (start : MessageStart) (done : List MessageAct) → Stands start done self.now →
             result ≡ acts.is_broken done }
     {
         self.broken

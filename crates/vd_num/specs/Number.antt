@@ -1,7 +1,7 @@
 -- Slots and alignments.
 use Rattle.std.specs.Prelude.{ℕ, zero, suc, ◌+◌, ◌*◌, ◌/◌, ◌%◌, nat_le, nat_lt, ◌&&◌, Bool, if◌then◌else◌, min}
 
--- the least p with len ≤ 4096 * p
+-- how many slots hold len bytes: the least n with len ≤ 4096 * n
 abbrev pub pages_of : ℕ → ℕ
 pages_of len = len / 4096 + min 1 (len % 4096)
 

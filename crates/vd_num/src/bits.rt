@@ -1,3 +1,5 @@
+//! Words of flags: the device status and features.
+
 ghost use Rattle.std.specs.Prelude.{⊤, [], ◌∷◌, codes};
 
 use bitflags::{Flag, Flags, bitflag_items};

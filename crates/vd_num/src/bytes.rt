@@ -1,3 +1,5 @@
+//! A list of bytes.
+
 ghost use Rattle.std.specs.Prelude.{◌≡◌, ℕ, List, [], ◌∷◌, ◌++◌, OnOk, OnErr, length};
 
 use std::alloc::{AllocError, Global};

@@ -1,3 +1,5 @@
+//! Linux's error numbers.
+
 ghost use Rattle.std.specs.Prelude.{◌≡◌};
 
 /// An error number of Linux, by its name.
@@ -17,11 +19,11 @@ pub enum Errno {
 }
 
 impl Errno {
-    ghost use Rattle.vd_num.specs.Errno.{number_of};
+    ghost use Rattle.vd_num.specs.Errno.{errno_number};
 
     /// The number that `errno.h` gives the name.
     pub fn number(self) -> u8
-        ensures { result ≡ number_of self }
+        ensures { result ≡ errno_number self }
     {
         match self {
             Errno::Noent => 2,

@@ -1,3 +1,5 @@
+//! Little-endian fields of a list of bytes.
+
 ghost use Rattle.std.specs.Prelude.{◌≡◌, ◌+◌, ◌≤◌, length};
 ghost use Rattle.vd_num.specs.Field.{field_at, with_field};
 

@@ -20,5 +20,5 @@ pub use errno::Errno;
 pub use field::{get16, get32, get64, set16, set32, set64};
 pub use lines::Lines;
 pub use name::Name;
-pub use number::{Bus, PAGE_SIZE, Range, align_of, pages};
+pub use number::{Bus, Range, SLOT_SIZE, align_of, pages};
 pub use steps::{Steps, Words};

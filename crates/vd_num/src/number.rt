@@ -1,8 +1,10 @@
+//! Slots, and the place that a range of them is aligned to.
+
 ghost use Rattle.std.specs.Prelude.{◌≡◌, ℕ, ◌+◌, ◌*◌, ◌<◌, ◌≤◌, ◌^◌};
 ghost use Rattle.vd_num.specs.Number.{pages_of, power_from};
 
-/// The bytes of a slot, the unit in which places in the I/O address space are given.
-pub const PAGE_SIZE: u64 = 4096;
+/// The bytes of a slot, the unit in which places in the I/O address space are given. A page has 1 or 16 slots.
+pub const SLOT_SIZE: u64 = 4096;
 
 /// A range of addresses; both ends belong to it.
 #[derive(Clone, Copy, Debug, PartialEq, Eq)]
@@ -17,13 +19,13 @@ pub struct Bus {
     pub at: u64,
 }
 
-/// How many slots hold `len` bytes: the least p with `len <= 4096 * p`.
+/// How many slots hold `len` bytes: the least n with `len <= 4096 * n`. It counts slots, of which a page may have 16.
 pub fn pages(len: u64) -> u64
     ensures value { result ≡ pages_of len }
     ensures enough { len ≤ 4096 * result }
     ensures least { 4096 * result < len + 4096 }
 {
-    len / PAGE_SIZE + u64::from(!len.is_multiple_of(PAGE_SIZE))
+    len / SLOT_SIZE + u64::from(!len.is_multiple_of(SLOT_SIZE))
 }
 
 /// The least power of two that is not below `pages`.

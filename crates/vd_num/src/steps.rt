@@ -1,3 +1,5 @@
+//! Rows of words, and how many of them were looked at.
+
 ghost use Rattle.std.specs.Prelude.{◌≡◌, ◌+◌, ◌<◌, ◌^◌, ◌==◌, ℕ, IfOk, length, slice_index, slice_set};
 
 use std::alloc::{AllocError, Global};

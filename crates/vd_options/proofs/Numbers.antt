@@ -5,29 +5,29 @@ use Rattle.std.proofs.lemmas.Bool.Decides.{nat_tests}
 use Rattle.std.proofs.Math.Seq.{take-length}
 use Rattle.std.specs.Option.{option_and_then}
 use Rattle.vd_options.specs.declared.words.Chosen.{Chosen}
-use Rattle.vd_options.specs.Words.{digits_from, between, with_pair, with_pairs}
+use Rattle.vd_options.specs.Words.{decimal_from, between, with_pair, with_pairs}
 
 -- digits only make a number greater
-pub digits_past : (n hi : ℕ) (bytes : List ℕ) → hi < n → between 0 hi (digits_from n bytes) ≡ None
+pub digits_past : (n hi : ℕ) (bytes : List ℕ) → hi < n → between 0 hi (decimal_from n bytes) ≡ None
 digits_past n hi [] past = let large : (nat_le 0 n && nat_le n hi) ≡ false = grind (arith, nat_tests) in ap (λ b. cond b (Some n) None) large
 digits_past n hi (b ∷ bytes) past = by (digits_past (10 * n + (b - 48)) hi bytes (omega arith)) (nat_le 48 b && nat_le b 57) where
-  by : between 0 hi (digits_from (10 * n + (b - 48)) bytes) ≡ None → (t : Bool) → between 0 hi (cond t (digits_from (10 * n + (b - 48)) bytes) None) ≡ None
+  by : between 0 hi (decimal_from (10 * n + (b - 48)) bytes) ≡ None → (t : Bool) → between 0 hi (cond t (decimal_from (10 * n + (b - 48)) bytes) None) ≡ None
   by later true = later
   by later false = refl
 
-pub digits_end : (n hi : ℕ) → n ≤ hi → between 0 hi (digits_from n []) ≡ Some n
+pub digits_end : (n hi : ℕ) → n ≤ hi → between 0 hi (decimal_from n []) ≡ Some n
 digits_end n hi fits = let small : (nat_le 0 n && nat_le n hi) ≡ true = grind (arith, nat_tests) in ap (λ b. cond b (Some n) None) small
 
 -- the next digit
 pub digits_next : (n hi i : ℕ) (text : List ℕ) → i < length text → (nat_le 48 (get_or text i 0) && nat_le (get_or text i 0) 57) ≡ true
-    → between 0 hi (digits_from n (drop i text)) ≡ between 0 hi (digits_from (10 * n + (get_or text i 0 - 48)) (drop (suc i) text))
+    → between 0 hi (decimal_from n (drop i text)) ≡ between 0 hi (decimal_from (10 * n + (get_or text i 0 - 48)) (drop (suc i) text))
 digits_next n hi i text below digit =
-    ap (λ l. between 0 hi (digits_from n l)) (drop-cons text i 0 below) ∙ ap (λ t. between 0 hi (cond t (digits_from (10 * n + (get_or text i 0 - 48)) (drop (suc i) text)) None)) digit
+    ap (λ l. between 0 hi (decimal_from n l)) (drop-cons text i 0 below) ∙ ap (λ t. between 0 hi (cond t (decimal_from (10 * n + (get_or text i 0 - 48)) (drop (suc i) text)) None)) digit
 
 pub digits_bad : (n hi i : ℕ) (text : List ℕ) → i < length text → (nat_le 48 (get_or text i 0) && nat_le (get_or text i 0) 57) ≡ false
-    → between 0 hi (digits_from n (drop i text)) ≡ None
+    → between 0 hi (decimal_from n (drop i text)) ≡ None
 digits_bad n hi i text below other =
-    ap (λ l. between 0 hi (digits_from n l)) (drop-cons text i 0 below) ∙ ap (λ t. between 0 hi (cond t (digits_from (10 * n + (get_or text i 0 - 48)) (drop (suc i) text)) None)) other
+    ap (λ l. between 0 hi (decimal_from n l)) (drop-cons text i 0 below) ∙ ap (λ t. between 0 hi (cond t (decimal_from (10 * n + (get_or text i 0 - 48)) (drop (suc i) text)) None)) other
 
 -- one pair more
 pub pairs_next : {X : Type 0} (bytes_of : X → List ℕ) (chosen more : Chosen) (rest : List X) (flag value : X) → 2 ≤ length rest → flag ≡ get_or rest 0 flag → value ≡ get_or rest 1 value

@@ -6,15 +6,15 @@ use Rattle.vd_options.specs.declared.words.Chosen.{Chosen}
 use Rattle.vd_options.specs.declared.options.Options.{Options}
 
 -- the number that decimal digits after n make, if all of these are digits
-abbrev pub digits_from : ℕ → List ℕ → Option ℕ
-digits_from n [] = Some n
-digits_from n (b ∷ bytes) = if nat_le 48 b && nat_le b 57 then digits_from (10 * n + (b - 48)) bytes else None
+abbrev pub decimal_from : ℕ → List ℕ → Option ℕ
+decimal_from n [] = Some n
+decimal_from n (b ∷ bytes) = if nat_le 48 b && nat_le b 57 then decimal_from (10 * n + (b - 48)) bytes else None
 
 -- a decimal number without leading zeros
 abbrev pub decimal_of : List ℕ → Option ℕ
 decimal_of [] = None
-decimal_of (b ∷ []) = digits_from 0 (b ∷ [])
-decimal_of (b ∷ c ∷ bytes) = if b == 48 then None else digits_from 0 (b ∷ c ∷ bytes)
+decimal_of (b ∷ []) = decimal_from 0 (b ∷ [])
+decimal_of (b ∷ c ∷ bytes) = if b == 48 then None else decimal_from 0 (b ∷ c ∷ bytes)
 
 -- the number, if it is from lo to hi
 abbrev pub between : ℕ → ℕ → Option ℕ → Option ℕ

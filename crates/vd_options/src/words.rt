@@ -1,7 +1,7 @@
 //! The words of a run.
 
 ghost use Rattle.std.specs.Prelude.{◌≡◌, ◌≤◌, ◌^◌, MatchResult, MatchOption, None, map, string_bytes};
-ghost use Rattle.vd_options.specs.Words.{digits_from, decimal_of, between, with_bounce, with_iova, with_pair, with_pairs, sizes_of, asked_sizes, IsOptions};
+ghost use Rattle.vd_options.specs.Words.{decimal_from, decimal_of, between, with_bounce, with_iova, with_pair, with_pairs, sizes_of, asked_sizes, IsOptions};
 
 use crate::options::Options;
 use std::alloc::Global;
@@ -26,7 +26,7 @@ pub struct Chosen {
 /// The number of decimal digits, if it is at most `hi`.
 fn digits(text: &[u8], hi: u32) -> Option<u32>
     requires { hi ≤ 2 ^ 16 }
-    ensures { result ≡ between 0 hi (digits_from 0 text.now) }
+    ensures { result ≡ between 0 hi (decimal_from 0 text.now) }
 {
     let mut n = 0;
     for b in text {

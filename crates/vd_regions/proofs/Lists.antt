@@ -10,7 +10,7 @@ use Rattle.std.specs.declared.cmp.Ordering.TheVariants.{Less, Greater}
 use Rattle.std.specs.BTreeMap.{insert_entry, is_at}
 use Rattle.vd_model.specs.declared.memory.Region.{Region}
 use Rattle.vd_model.specs.AreaTurns.{overlaps, lower, lowest}
-use Rattle.vd_regions.specs.Ordered.{placed, IsFrom}
+use Rattle.vd_regions.specs.Ordered.{with_region, IsFrom}
 
 pub from_less : (low high : ℕ) (es : List (ℕ × Region)) → low ≤ high → IsFrom high es → IsFrom low es
 from_less low high [] h f = tt
@@ -91,7 +91,7 @@ inserted region e es (inr more) =
 
 pub record Places (low : ℕ) (region : Region) (es : List (ℕ × Region)) : Type 0 where
   pub from : IsFrom low (insert_entry nat_cmp es region.start region)
-  pub list : values_of (insert_entry nat_cmp es region.start region) ≡ placed region (values_of es)
+  pub list : values_of (insert_entry nat_cmp es region.start region) ≡ with_region region (values_of es)
 
 pub places : (low : ℕ) (region : Region) (es : List (ℕ × Region)) → region.start ≤ region.last → low ≤ region.start → IsFrom low es → list_any (overlaps region.start region.last) (values_of es) ≡ false
     → Places low region es
@@ -115,7 +115,7 @@ places low region (e ∷ es) long above f none = by (apart region e.1 (or_none (
           let past : region.last + 1 ≤ e.0 = omega arith in
           record {
             from = subst (λ xs. IsFrom low xs) (sym is) (above, refl, long, (past, f.1, f.2, f.3));
-            list = ap (λ xs. values_of xs) is ∙ sym (ap (λ b. if b then region ∷ e.1 ∷ values_of es else e.1 ∷ placed region (values_of es)) test);
+            list = ap (λ xs. values_of xs) is ∙ sym (ap (λ b. if b then region ∷ e.1 ∷ values_of es else e.1 ∷ with_region region (values_of es)) test);
           }
       by (inr after) later =
           let k = key in
@@ -128,7 +128,7 @@ places low region (e ∷ es) long above f none = by (apart region e.1 (or_none (
           let rest = later (omega arith) in
           record {
             from = subst (λ xs. IsFrom low xs) (sym is) (f.0, f.1, f.2, rest.from);
-            list = ap (λ xs. values_of xs) is ∙ ap (λ xs. e.1 ∷ xs) rest.list ∙ sym (ap (λ b. if b then region ∷ e.1 ∷ values_of es else e.1 ∷ placed region (values_of es)) test);
+            list = ap (λ xs. values_of xs) is ∙ ap (λ xs. e.1 ∷ xs) rest.list ∙ sym (ap (λ b. if b then region ∷ e.1 ∷ values_of es else e.1 ∷ with_region region (values_of es)) test);
           }
 
 -- ---- one region fewer

@@ -3,9 +3,9 @@ use Rattle.std.specs.Prelude.{ℕ, ◌+◌, ◌≤◌, ◌≡◌, List, [], ◌�
 use Rattle.vd_model.specs.declared.memory.Region.{Region}
 
 -- the regions with one more, before the first that starts above it
-abbrev pub placed : Region → List Region → List Region
-placed region [] = region ∷ []
-placed region (r ∷ rs) = if nat_lt region.start r.start then region ∷ r ∷ rs else r ∷ placed region rs
+abbrev pub with_region : Region → List Region → List Region
+with_region region [] = region ∷ []
+with_region region (r ∷ rs) = if nat_lt region.start r.start then region ∷ r ∷ rs else r ∷ with_region region rs
 
 -- each entry has the start of its region as its key, and each region starts at `low` or above and past the one before
 abbrev pub IsFrom : ℕ → List (ℕ × Region) → Type 0

@@ -4,7 +4,7 @@ ghost use Rattle.std.specs.Prelude.{◌≡◌, ◌==◌, ◌≤◌, ◌↔◌, n
 ghost use Rattle.std.specs.List.{list_any};
 ghost use Rattle.std.specs.BTreeMap.{values};
 ghost use Rattle.vd_model.specs.AreaTurns.{overlaps, first_region};
-ghost use Rattle.vd_regions.specs.Ordered.{placed};
+ghost use Rattle.vd_regions.specs.Ordered.{with_region};
 
 use std::alloc::Global;
 use std::collections::BTreeMap;
@@ -52,7 +52,7 @@ impl Regions {
     /// Adds a region.
     pub fn add(&mut self, region: Region) -> Result<(), AddRegionError>
         requires { region.start ≤ region.last }
-        ensures ok { OnOk result (self.new ≡ placed region self.old) }
+        ensures ok { OnOk result (self.new ≡ with_region region self.old) }
         ensures overlap { result ≡ Err AddRegionError.Overlap ↔ (list_any (overlaps region.start region.last) self.old ≡ true) }
         ensures err { OnErr result (self.new ≡ self.old) }
     {

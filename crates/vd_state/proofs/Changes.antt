@@ -4,9 +4,9 @@ use Rattle.std.specs.List.{slice_get, list_all}
 use Rattle.std.specs.Option.{option_map}
 use Rattle.std.proofs.lemmas.Bool.Decides.{nat_tests}
 use Rattle.vd_model.specs.declared.step.QueueOrConfig.TheVariants as interrupt
-use Rattle.vd_model.specs.State.{StateAct, Max_set, Num_set, Addr_set, Ready_set, Avail_set, Kick_file_set, Kicked, Kicks_taken, Callback_set, Injected, Interrupts_taken, Cleared, Made, Addresses, is_queue, status_of, features_of, max_of, num_of, addresses_of, avail_of, is_ready, has_kick_file, kicks_of, is_remembered, has_callback, counts, interrupts_of, are_set_up}
+use Rattle.vd_model.specs.State.{StateAct, Max_set, Num_set, Addr_set, Ready_set, Avail_set, Kick_file_set, Kicked, Kicks_taken, Callback_set, Injected, Interrupts_taken, Cleared, DeviceShape, Addresses, is_queue, device_status, features_of, max_of, num_of, addresses_of, avail_of, is_ready, has_kick_file, kicks_of, is_remembered, has_callback, counts, interrupts_of, are_set_up}
 use Rattle.vd_state.specs.declared.queue.Queue.{Queue}
-use Rattle.vd_state.specs.Kept.{Kept, fresh, cleared, kicked, with_kick_file, injected}
+use Rattle.vd_state.specs.Kept.{Kept, new_queue, queue_after_reset, queue_after_kick, with_kick_file, queue_after_interrupt}
 use Rattle.vd_state.specs.Stands.{Stands, queue_of}
 use Rattle.std.proofs.lemmas.Option.{get_or_from_slice_get}
 use Rattle.std.proofs.lemmas.List.Folds.{list_all_more}
@@ -16,7 +16,7 @@ use Rattle.vd_state.proofs.Places.{written, elsewhere, mapped, replicated, insid
 false_is_not : {b : Bool} → b ≡ false → b ≡ true → ⊥
 false_is_not e f = cc
 
-module _ (made : Made) (acts : List StateAct) (s : Kept) (st : Stands made acts s) where
+module _ (made : DeviceShape) (acts : List StateAct) (s : Kept) (st : Stands made acts s) where
   -- a queue that is found is the one of its index
   pub found_queue : (k : ℕ) (v : Queue) → slice_get s.queues k ≡ Some v → v ≡ queue_of acts k
   found_queue k v e = let inside = inside_from s.queues k v e in let count = st.count in let same : Some v ≡ Some (queue_of acts k) = sym e ∙ st.queues k (omega arith) in cc
@@ -30,7 +30,7 @@ module _ (made : Made) (acts : List StateAct) (s : Kept) (st : Stands made acts 
   -- an act on one queue, given by what it changes there
   changed : (act : StateAct) (k : ℕ) (v old : Queue) → slice_get s.queues k ≡ Some old → (change : ℕ → Bool → Queue)
       → ((q : ℕ) → queue_of (act ∷ acts) q ≡ change q (k == q)) → ((q : ℕ) → change q false ≡ queue_of acts q) → v ≡ change k true
-      → (status_of (act ∷ acts) ≡ status_of acts) × (features_of (act ∷ acts) ≡ features_of acts)
+      → (device_status (act ∷ acts) ≡ device_status acts) × (features_of (act ∷ acts) ≡ features_of acts)
       × (has_callback (act ∷ acts) interrupt.Config ≡ has_callback acts interrupt.Config) × (interrupts_of (act ∷ acts) interrupt.Config ≡ interrupts_of acts interrupt.Config)
       → Stands made (act ∷ acts) (record s { queues = set s.queues k v })
   changed act k v old there change each same is rest = record {
@@ -83,11 +83,11 @@ module _ (made : Made) (acts : List StateAct) (s : Kept) (st : Stands made acts 
       remembered = (b && is_ready acts q && not (has_kick_file acts q)) || is_remembered acts q;
     }
 
-    kick_is : (ready file : Bool) → is_ready acts k ≡ ready → has_kick_file acts k ≡ file → kicked (queue_of acts k) ≡ kick_change k true
+    kick_is : (ready file : Bool) → is_ready acts k ≡ ready → has_kick_file acts k ≡ file → queue_after_kick (queue_of acts k) ≡ kick_change k true
     unfolding kick_change
     kick_is ready file e f = ap (λ (r : Bool). one r (has_kick_file acts k)) refl ∙ cases (is_ready acts k) (has_kick_file acts k) where
       one : Bool → Bool → Queue
-      one r f = (let w : Queue = record (queue_of acts k) { ready = r; kicks = cond f (Some (kicks_of acts k)) None } in kicked w)
+      one r f = (let w : Queue = record (queue_of acts k) { ready = r; kicks = cond f (Some (kicks_of acts k)) None } in queue_after_kick w)
 
       other : Bool → Bool → Queue
       other r f = record (queue_of acts k) { ready = r; kicks = cond f (Some (cond r (kicks_of acts k + 1) (kicks_of acts k))) None; remembered = (r && not f) || is_remembered acts k }
@@ -98,10 +98,10 @@ module _ (made : Made) (acts : List StateAct) (s : Kept) (st : Stands made acts 
       cases false true = refl
       cases false false = refl
 
-    pub kick_stands : Stands made (Kicked k ∷ acts) (record s { queues = set s.queues k (kicked old) })
+    pub kick_stands : Stands made (Kicked k ∷ acts) (record s { queues = set s.queues k (queue_after_kick old) })
     unfolding kick_change
-    kick_stands = changed (Kicked k) k (kicked old) old there kick_change
-        (λ q. refl) (λ q. refl) (ap kicked is_old ∙ kick_is (is_ready acts k) (has_kick_file acts k) refl refl) (refl, refl, refl, refl)
+    kick_stands = changed (Kicked k) k (queue_after_kick old) old there kick_change
+        (λ q. refl) (λ q. refl) (ap queue_after_kick is_old ∙ kick_is (is_ready acts k) (has_kick_file acts k) refl refl) (refl, refl, refl, refl)
 
     -- what a new kick file makes of a queue
     pub file_stands : Stands made (Kick_file_set k true ∷ acts) (record s { queues = set s.queues k (with_kick_file true old) })
@@ -150,12 +150,12 @@ module _ (made : Made) (acts : List StateAct) (s : Kept) (st : Stands made acts 
         (λ q b. record (queue_of acts q) { callback = cond b on (has_callback acts (interrupt.Queue q)); interrupts = cond b 0 (interrupts_of acts (interrupt.Queue q)) })
         (λ q. refl) (λ q. refl) (ap (λ (w : Queue). record w { callback = on; interrupts = 0 }) is_old) (refl, refl, refl, refl)
 
-    pub injected_stands : Stands made (Injected (interrupt.Queue k) ∷ acts) (record s { queues = set s.queues k (injected old) })
-    injected_stands = changed (Injected (interrupt.Queue k)) k (injected old) old there
+    pub injected_stands : Stands made (Injected (interrupt.Queue k) ∷ acts) (record s { queues = set s.queues k (queue_after_interrupt old) })
+    injected_stands = changed (Injected (interrupt.Queue k)) k (queue_after_interrupt old) old there
         (λ q b. record (queue_of acts q) { interrupts = cond (b && counts acts (interrupt.Queue q)) (interrupts_of acts (interrupt.Queue q) + 1) (interrupts_of acts (interrupt.Queue q)) })
-        (λ q. refl) (λ q. refl) (ap injected is_old ∙ cases (is_ready acts k) (has_callback acts (interrupt.Queue k))) (refl, refl, refl, refl) where
+        (λ q. refl) (λ q. refl) (ap queue_after_interrupt is_old ∙ cases (is_ready acts k) (has_callback acts (interrupt.Queue k))) (refl, refl, refl, refl) where
           one : Bool → Bool → Queue
-          one r c = (let w : Queue = record (queue_of acts k) { ready = r; callback = c } in injected w)
+          one r c = (let w : Queue = record (queue_of acts k) { ready = r; callback = c } in queue_after_interrupt w)
 
           other : Bool → Bool → Queue
           other r c = record (queue_of acts k) { ready = r; callback = c; interrupts = cond (c && r) (interrupts_of acts (interrupt.Queue k) + 1) (interrupts_of acts (interrupt.Queue k)) }
@@ -193,13 +193,13 @@ module _ (made : Made) (acts : List StateAct) (s : Kept) (st : Stands made acts 
   pub config_taken_stands : Stands made (Interrupts_taken interrupt.Config ∷ acts) (record s { interrupts = 0 })
   config_taken_stands = record { offered = st.offered; status = st.status; features = st.features; count = st.count; queues = st.queues; callback = st.callback; interrupts = refl }
 
-  pub cleared_stands : Stands made (Cleared ∷ acts) (record s { status = 0; features = 0; queues = map cleared s.queues; callback = false; interrupts = 0 })
-  cleared_stands = record {
+  pub queue_after_reset_stands : Stands made (Cleared ∷ acts) (record s { status = 0; features = 0; queues = map queue_after_reset s.queues; callback = false; interrupts = 0 })
+  queue_after_reset_stands = record {
     offered = st.offered;
     status = refl;
     features = refl;
-    count = length-map s.queues cleared ∙ st.count;
-    queues = λ q inside. mapped cleared s.queues q ∙ ap (option_map cleared) (st.queues q inside);
+    count = length-map s.queues queue_after_reset ∙ st.count;
+    queues = λ q inside. mapped queue_after_reset s.queues q ∙ ap (option_map queue_after_reset) (st.queues q inside);
     callback = refl;
     interrupts = refl;
   }
@@ -229,21 +229,21 @@ module _ (made : Made) (acts : List StateAct) (s : Kept) (st : Stands made acts 
   set_up_is = set_up_upto made.queues (let c = st.count in omega arith) ∙ ap (list_all (λ (q : Queue). nat_lt 0 q.max)) (take_all made.queues s.queues (let c = st.count in omega arith))
 
 -- a state with other queues that are equal
-pub stands_with : {made : Made} {acts : List StateAct} (s : Kept) {qs rs : List Queue} → rs ≡ qs → Stands made acts (record s { queues = qs }) → Stands made acts (record s { queues = rs })
+pub stands_with : {made : DeviceShape} {acts : List StateAct} (s : Kept) {qs rs : List Queue} → rs ≡ qs → Stands made acts (record s { queues = qs }) → Stands made acts (record s { queues = rs })
 stands_with {made} {acts} s e st = subst (λ l. Stands made acts (record s { queues = l })) (sym e) st
 
-pub stands_inside : {made : Made} {acts : List StateAct} {h k : Kept} → h ≡ k → Stands made acts k → Stands made acts h
+pub stands_inside : {made : DeviceShape} {acts : List StateAct} {h k : Kept} → h ≡ k → Stands made acts k → Stands made acts h
 stands_inside {made} {acts} e s = subst (λ h. Stands made acts h) (sym e) s
 
 -- a new state
-pub new_stands : (n offered : ℕ) (qs : List Queue) → qs ≡ replicate n (fresh 0)
+pub new_stands : (n offered : ℕ) (qs : List Queue) → qs ≡ replicate n (new_queue 0)
     → Stands (record { queues = n; offered = offered }) [] (record { status = 0; offered = offered; features = 0; queues = qs; callback = false; interrupts = 0 })
 new_stands n offered qs is = subst (λ l. Stands (record { queues = n; offered = offered }) [] (record { status = 0; offered = offered; features = 0; queues = l; callback = false; interrupts = 0 })) (sym is) (record {
   offered = refl;
   status = refl;
   features = refl;
-  count = length-replicate n (fresh 0);
-  queues = λ q inside. replicated n q (fresh 0) inside;
+  count = length-replicate n (new_queue 0);
+  queues = λ q inside. replicated n q (new_queue 0) inside;
   callback = refl;
   interrupts = refl;
 })

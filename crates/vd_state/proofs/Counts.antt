@@ -5,7 +5,7 @@ use Rattle.std.specs.Option.{unwrap_or}
 use Rattle.std.proofs.lemmas.Option.{get_or_from_slice_get}
 use Rattle.std.proofs.lemmas.List.Elements.{All-set, All-weaker, All-map, All-replicate}
 use Rattle.vd_state.specs.declared.queue.Queue.{Queue}
-use Rattle.vd_state.specs.Kept.{Kept, CountsWithin, fresh, cleared, counted, kicked, with_kick_file, injected}
+use Rattle.vd_state.specs.Kept.{Kept, CountsWithin, new_queue, queue_after_reset, queue_with_kick, queue_after_kick, with_kick_file, queue_after_interrupt}
 use Rattle.vd_state.proofs.Places.{inside_from}
 
 abbrev KicksWithin : ℕ → Queue → Type 0
@@ -30,9 +30,9 @@ module _ (most : ℕ) (s : Kept) (w : CountsWithin most s) where
     config = let c = w.config in omega arith;
   })
 
-pub kicked_within : (most : ℕ) (q : Queue) → unwrap_or q.kicks 0 ≤ most → q.interrupts ≤ most → (unwrap_or (kicked q).kicks 0 ≤ most + 1) × ((kicked q).interrupts ≤ most + 1)
-kicked_within most q a b = by q.ready q.kicks a where
-  by : (r : Bool) (o : Option ℕ) → unwrap_or o 0 ≤ most → (unwrap_or (cond r (counted o (record q { kicks = o })) (record q { kicks = o })).kicks 0 ≤ most + 1) × ((cond r (counted o (record q { kicks = o })) (record q { kicks = o })).interrupts ≤ most + 1)
+pub queue_after_kick_within : (most : ℕ) (q : Queue) → unwrap_or q.kicks 0 ≤ most → q.interrupts ≤ most → (unwrap_or (queue_after_kick q).kicks 0 ≤ most + 1) × ((queue_after_kick q).interrupts ≤ most + 1)
+queue_after_kick_within most q a b = by q.ready q.kicks a where
+  by : (r : Bool) (o : Option ℕ) → unwrap_or o 0 ≤ most → (unwrap_or (cond r (queue_with_kick o (record q { kicks = o })) (record q { kicks = o })).kicks 0 ≤ most + 1) × ((cond r (queue_with_kick o (record q { kicks = o })) (record q { kicks = o })).interrupts ≤ most + 1)
   by true None c = (omega arith, omega arith)
   by true (Some n) c = (omega arith, omega arith)
   by false o c = (omega arith, omega arith)
@@ -45,26 +45,26 @@ file_within most true q b = by q.ready q.remembered where
   by true false = (omega arith, omega arith)
   by false m = (omega arith, omega arith)
 
-pub injected_within : (most : ℕ) (q : Queue) → unwrap_or q.kicks 0 ≤ most → q.interrupts ≤ most → (unwrap_or (injected q).kicks 0 ≤ most + 1) × ((injected q).interrupts ≤ most + 1)
-injected_within most q a b = by (q.ready && q.callback) where
+pub queue_after_interrupt_within : (most : ℕ) (q : Queue) → unwrap_or q.kicks 0 ≤ most → q.interrupts ≤ most → (unwrap_or (queue_after_interrupt q).kicks 0 ≤ most + 1) × ((queue_after_interrupt q).interrupts ≤ most + 1)
+queue_after_interrupt_within most q a b = by (q.ready && q.callback) where
   by : (t : Bool) → (unwrap_or (cond t (record q { interrupts = q.interrupts + 1 }) q).kicks 0 ≤ most + 1) × ((cond t (record q { interrupts = q.interrupts + 1 }) q).interrupts ≤ most + 1)
   by true = (omega arith, omega arith)
   by false = (omega arith, omega arith)
 
 -- a reset leaves no counts
-pub cleared_within : (s : Kept) (qs : List Queue) → qs ≡ map cleared s.queues → CountsWithin 0 (record s { status = 0; features = 0; queues = qs; callback = false; interrupts = 0 })
-cleared_within s qs is = subst (λ l. CountsWithin 0 (record s { status = 0; features = 0; queues = l; callback = false; interrupts = 0 })) (sym is) (record {
-  kicks = All-map (KicksWithin 0) cleared s.queues (λ i d inside. omega arith);
-  queues = All-map (InterruptsWithin 0) cleared s.queues (λ i d inside. omega arith);
+pub queue_after_reset_within : (s : Kept) (qs : List Queue) → qs ≡ map queue_after_reset s.queues → CountsWithin 0 (record s { status = 0; features = 0; queues = qs; callback = false; interrupts = 0 })
+queue_after_reset_within s qs is = subst (λ l. CountsWithin 0 (record s { status = 0; features = 0; queues = l; callback = false; interrupts = 0 })) (sym is) (record {
+  kicks = All-map (KicksWithin 0) queue_after_reset s.queues (λ i d inside. omega arith);
+  queues = All-map (InterruptsWithin 0) queue_after_reset s.queues (λ i d inside. omega arith);
   config = omega arith;
 })
 
 pub counts_inside : {most : ℕ} {h k : Kept} → h ≡ k → CountsWithin most k → CountsWithin most h
 counts_inside {most} e w = subst (λ h. CountsWithin most h) (sym e) w
 
-pub new_within : (n offered : ℕ) (qs : List Queue) → qs ≡ replicate n (fresh 0) → CountsWithin 0 (record { status = 0; offered = offered; features = 0; queues = qs; callback = false; interrupts = 0 })
+pub new_within : (n offered : ℕ) (qs : List Queue) → qs ≡ replicate n (new_queue 0) → CountsWithin 0 (record { status = 0; offered = offered; features = 0; queues = qs; callback = false; interrupts = 0 })
 new_within n offered qs is = subst (λ l. CountsWithin 0 (record { status = 0; offered = offered; features = 0; queues = l; callback = false; interrupts = 0 })) (sym is) (record {
-  kicks = All-replicate (KicksWithin 0) n (fresh 0) (omega arith);
-  queues = All-replicate (InterruptsWithin 0) n (fresh 0) (omega arith);
+  kicks = All-replicate (KicksWithin 0) n (new_queue 0) (omega arith);
+  queues = All-replicate (InterruptsWithin 0) n (new_queue 0) (omega arith);
   config = omega arith;
 })

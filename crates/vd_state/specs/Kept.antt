@@ -15,8 +15,8 @@ pub record Kept : Type 0 where
 -- ---- one queue
 
 -- a queue of which only the largest size is set
-abbrev pub fresh : ℕ → Queue
-fresh max = record {
+abbrev pub new_queue : ℕ → Queue
+new_queue max = record {
   max = max;
   num = 0;
   desc = 0;
@@ -31,17 +31,17 @@ fresh max = record {
 }
 
 -- a reset keeps the largest size
-abbrev pub cleared : Queue → Queue
-cleared q = fresh q.max
+abbrev pub queue_after_reset : Queue → Queue
+queue_after_reset q = new_queue q.max
 
 -- a kick counts in the kick file, or is remembered without one
-abbrev pub counted : Option ℕ → Queue → Queue
-counted None q = record q { remembered = true }
-counted (Some count) q = record q { kicks = Some (count + 1) }
+abbrev pub queue_with_kick : Option ℕ → Queue → Queue
+queue_with_kick None q = record q { remembered = true }
+queue_with_kick (Some count) q = record q { kicks = Some (count + 1) }
 
 -- a kick of a queue that isn't ready is nothing
-abbrev pub kicked : Queue → Queue
-kicked q = if q.ready then counted q.kicks q else q
+abbrev pub queue_after_kick : Queue → Queue
+queue_after_kick q = if q.ready then queue_with_kick q.kicks q else q
 
 -- a new kick file counts the remembered kick of a ready queue, which is forgotten
 abbrev pub with_kick_file : Bool → Queue → Queue
@@ -49,8 +49,8 @@ with_kick_file false q = record q { kicks = None }
 with_kick_file true q = if q.ready then record q { kicks = Some (if q.remembered then 1 else 0); remembered = false } else record q { kicks = Some 0 }
 
 -- an interrupt counts where the queue is ready and has a callback
-abbrev pub injected : Queue → Queue
-injected q = if q.ready && q.callback then record q { interrupts = q.interrupts + 1 } else q
+abbrev pub queue_after_interrupt : Queue → Queue
+queue_after_interrupt q = if q.ready && q.callback then record q { interrupts = q.interrupts + 1 } else q
 
 -- what a question for the queue tells
 abbrev pub told_of : Queue → QueueInfo

@@ -3,7 +3,7 @@
 ghost use Rattle.std.specs.Prelude.{◌≡◌, ◌<◌, ◌≤◌, ◌^◌, Some, IfOk, OnOk, IfErr, OnErr, slice_get, slice_set, unwrap_or, vec_len, map, nat_lt};
 ghost use Rattle.std.specs.List.{list_all};
 ghost use Rattle.vd_num.specs.declared.errno.Errno.TheVariants.{Inval};
-ghost use Rattle.vd_state.specs.Kept.{cleared};
+ghost use Rattle.vd_state.specs.Kept.{queue_after_reset};
 
 use vd_model::QueueInfo;
 use vd_num::Errno;
@@ -29,11 +29,11 @@ pub struct Queue {
 }
 
 impl Queue {
-    ghost use Rattle.vd_state.specs.Kept.{fresh, kicked, with_kick_file, injected, told_of};
+    ghost use Rattle.vd_state.specs.Kept.{new_queue, queue_after_kick, with_kick_file, queue_after_interrupt, told_of};
 
     /// A queue with a largest size, of which nothing else is set.
     pub fn fresh(max: u16) -> Queue
-        ensures { result ≡ fresh max }
+        ensures { result ≡ new_queue max }
     {
         Queue {
             max,
@@ -53,7 +53,7 @@ impl Queue {
     /// The queue after a kick: a ready one counts it in its file, or remembers it.
     pub fn kicked(self) -> Queue
         requires { unwrap_or self.kicks 0 < 2 ^ 62 }
-        ensures { result ≡ kicked self }
+        ensures { result ≡ queue_after_kick self }
     {
         if !self.ready {
             return self;
@@ -96,7 +96,7 @@ impl Queue {
     /// The queue after an interrupt, which counts where the queue is ready and has a callback.
     pub fn injected(self) -> Queue
         requires { self.interrupts < 2 ^ 62 }
-        ensures { result ≡ injected self }
+        ensures { result ≡ queue_after_interrupt self }
     {
         if self.ready && self.callback {
             Queue {
@@ -148,7 +148,7 @@ pub fn replace(queues: &mut Vec<Queue>, index: u32, queue: Queue)
 
 /// Resets each queue: only its largest size stays.
 pub fn clear_all(queues: &mut Vec<Queue>)
-    ensures { queues.new.items ≡ map cleared queues.old.items }
+    ensures { queues.new.items ≡ map queue_after_reset queues.old.items }
 {
     for queue in queues.iter_mut() {
         *queue = Queue::fresh(queue.max);

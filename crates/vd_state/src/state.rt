@@ -4,13 +4,11 @@ ghost use Rattle.std.specs.Prelude.{◌≡◌, ◌+◌, ◌<◌, ◌^◌, ◌==�
 ghost use Rattle.vd_model.specs.State.{may_have, are_aligned};
 
 use crate::queue::{Queue, are_set_up, clear_all, queue_at, replace};
+use bitflags::Flags;
 use std::alloc::{AllocError, Global};
 use std::marker::Model;
 use vd_model::QueueInfo;
-use vd_num::Errno;
-
-/// The status bit by which a driver says that it drives the device (virtio 1.2, section 2.1).
-const DRIVER_OK: u8 = 4;
+use vd_num::{Errno, Status};
 
 /// The feature bit of the I/O address space (virtio 1.2, section 6), which a driver must accept.
 const ACCESS_PLATFORM: u64 = 1 << 33;
@@ -29,7 +27,7 @@ fn is_acceptable(value: u64, offered: u64) -> bool
 fn is_size(num: u32, max: u16) -> bool
     ensures { result ≡ may_have max num }
 {
-    num.is_power_of_two() && num <= MAX_SIZE && num <= u32::from(max)
+    num <= MAX_SIZE && num <= u32::from(max) && num.is_power_of_two()
 }
 
 /// Whether the addresses of a queue's parts have the alignments of virtio 1.2, section 2.7.
@@ -43,7 +41,7 @@ fn is_aligned(desc: u64, driver: u64, device: u64) -> bool
 fn is_driven(status: u8) -> bool
     ensures { result ≡ not (bit_and status 4 == 0) }
 {
-    status & DRIVER_OK != 0
+    Status::from_bits_retain(status).intersects(Status::DRIVER_OK)
 }
 
 /// The state of a device.
@@ -71,7 +69,7 @@ impl Model for State {
 impl State {
     ghost use Rattle.vd_model.specs.State as acts;
     ghost use Rattle.vd_state.specs.declared.queue.Queue.{Queue};
-    ghost use Rattle.vd_model.specs.State.{StateAct, Made, is_queue, is_there, is_driver_ok, may_accept};
+    ghost use Rattle.vd_model.specs.State.{StateAct, DeviceShape, is_queue, is_queue_or_config, is_driver_ok, may_accept};
     ghost use Rattle.vd_state.specs.Kept.{CountsWithin, KicksCanRise, InterruptsCanRise};
     ghost use Rattle.vd_state.specs.Stands.{Stands, Does, Tells, TakesKicks, TakesInterrupts, subject};
 
@@ -94,16 +92,23 @@ impl State {
         })
     }
 
+    /// The features that the device offers.
+    pub fn offered(&self) -> u64
+        ensures { (made : DeviceShape) (done : List StateAct) → Stands made done self.now → result ≡ made.offered }
+    {
+        self.offered
+    }
+
     /// The device status.
     pub fn status(&self) -> u8
-        ensures { (made : Made) (done : List StateAct) → Stands made done self.now → result ≡ acts.status_of done }
+        ensures { (made : DeviceShape) (done : List StateAct) → Stands made done self.now → result ≡ acts.device_status done }
     {
         self.status
     }
 
     /// Sets the device status.
     pub fn set_status(&mut self, value: u8)
-        ensures stands { (made : Made) (done : List StateAct) → Stands made done self.old →
+        ensures stands { (made : DeviceShape) (done : List StateAct) → Stands made done self.old →
             Stands made (acts.Status_set value ∷ done) self.new }
         ensures counts { (most : ℕ) → CountsWithin most self.old → CountsWithin most self.new }
     {
@@ -112,14 +117,14 @@ impl State {
 
     /// The features that the driver accepted.
     pub fn features(&self) -> u64
-        ensures { (made : Made) (done : List StateAct) → Stands made done self.now → result ≡ acts.features_of done }
+        ensures { (made : DeviceShape) (done : List StateAct) → Stands made done self.now → result ≡ acts.features_of done }
     {
         self.features
     }
 
     /// Accepts features: offered ones, and among them that of the I/O address space.
     pub fn set_features(&mut self, value: u64) -> Result<(), Errno>
-        ensures does { (made : Made) (done : List StateAct) → Stands made done self.old →
+        ensures does { (made : DeviceShape) (done : List StateAct) → Stands made done self.old →
             Does made done (may_accept made value) (acts.Features_set value) result self.new }
         ensures counts { (most : ℕ) → CountsWithin most self.old → CountsWithin most self.new }
     {
@@ -132,7 +137,7 @@ impl State {
 
     /// Sets up a queue's largest size.
     pub fn set_max(&mut self, index: u32, max: u16) -> Result<(), Errno>
-        ensures does { (made : Made) (done : List StateAct) → Stands made done self.old →
+        ensures does { (made : DeviceShape) (done : List StateAct) → Stands made done self.old →
             Does made done (is_queue made index) (acts.Max_set index max) result self.new }
         ensures counts { (most : ℕ) → CountsWithin most self.old → CountsWithin most self.new }
     {
@@ -143,7 +148,7 @@ impl State {
 
     /// Chooses a queue's size: a power of two, up to 32,768 and to the largest size.
     pub fn set_num(&mut self, index: u32, num: u32) -> Result<(), Errno>
-        ensures does { (made : Made) (done : List StateAct) → Stands made done self.old →
+        ensures does { (made : DeviceShape) (done : List StateAct) → Stands made done self.old →
             Does made done (is_queue made index && may_have (acts.max_of done index) num) (acts.Num_set index num) result self.new }
         ensures counts { (most : ℕ) → CountsWithin most self.old → CountsWithin most self.new }
     {
@@ -158,7 +163,7 @@ impl State {
     /// Sets the addresses of a queue's descriptor table, available ring and used ring, which have
     /// the alignments of virtio 1.2, section 2.7.
     pub fn set_addr(&mut self, index: u32, desc: u64, driver: u64, device: u64) -> Result<(), Errno>
-        ensures does { (made : Made) (done : List StateAct) → Stands made done self.old →
+        ensures does { (made : DeviceShape) (done : List StateAct) → Stands made done self.old →
             Does made done (is_queue made index && are_aligned desc driver device) (acts.Addr_set index desc driver device) result self.new }
         ensures counts { (most : ℕ) → CountsWithin most self.old → CountsWithin most self.new }
     {
@@ -178,7 +183,7 @@ impl State {
 
     /// Makes a queue ready or not.
     pub fn set_ready(&mut self, index: u32, ready: bool) -> Result<(), Errno>
-        ensures does { (made : Made) (done : List StateAct) → Stands made done self.old →
+        ensures does { (made : DeviceShape) (done : List StateAct) → Stands made done self.old →
             Does made done (is_queue made index) (acts.Ready_set index ready) result self.new }
         ensures counts { (most : ℕ) → CountsWithin most self.old → CountsWithin most self.new }
     {
@@ -189,7 +194,7 @@ impl State {
 
     /// Sets the available index that a queue begins at.
     pub fn set_avail(&mut self, index: u32, avail: u16) -> Result<(), Errno>
-        ensures does { (made : Made) (done : List StateAct) → Stands made done self.old →
+        ensures does { (made : DeviceShape) (done : List StateAct) → Stands made done self.old →
             Does made done (is_queue made index) (acts.Avail_set index avail) result self.new }
         ensures counts { (most : ℕ) → CountsWithin most self.old → CountsWithin most self.new }
     {
@@ -200,7 +205,7 @@ impl State {
 
     /// What is known of a queue.
     pub fn info(&self, index: u32) -> Result<QueueInfo, Errno>
-        ensures { (made : Made) (done : List StateAct) → Stands made done self.now →
+        ensures { (made : DeviceShape) (done : List StateAct) → Stands made done self.now →
             Tells made done index result self.now }
     {
         let queue = queue_at(&self.queues, index)?;
@@ -210,7 +215,7 @@ impl State {
     /// Kicks a queue. A kick of a ready queue without a kick file is remembered.
     pub fn kick(&mut self, index: u32) -> Result<(), Errno>
         requires { KicksCanRise self.old index }
-        ensures does { (made : Made) (done : List StateAct) → Stands made done self.old →
+        ensures does { (made : DeviceShape) (done : List StateAct) → Stands made done self.old →
             Does made done (is_queue made index) (acts.Kicked index) result self.new }
         ensures counts { (most : ℕ) → CountsWithin most self.old → CountsWithin (most + 1) self.new }
     {
@@ -221,7 +226,7 @@ impl State {
 
     /// Sets a new kick file of a queue, or removes it.
     pub fn set_kick_file(&mut self, index: u32, on: bool) -> Result<(), Errno>
-        ensures does { (made : Made) (done : List StateAct) → Stands made done self.old →
+        ensures does { (made : DeviceShape) (done : List StateAct) → Stands made done self.old →
             Does made done (is_queue made index) (acts.Kick_file_set index on) result self.new }
         ensures counts { (most : ℕ) → CountsWithin most self.old → CountsWithin (most + 1) self.new }
     {
@@ -232,7 +237,7 @@ impl State {
 
     /// Takes the count of a queue's kick file, if it has one.
     pub fn take_kicks(&mut self, index: u32) -> Result<Option<u64>, Errno>
-        ensures takes { (made : Made) (done : List StateAct) → Stands made done self.old →
+        ensures takes { (made : DeviceShape) (done : List StateAct) → Stands made done self.old →
             TakesKicks made done index result self.new }
         ensures counts { (most : ℕ) → CountsWithin most self.old → CountsWithin most self.new }
     {
@@ -252,7 +257,7 @@ impl State {
 
     /// Sets or removes the callback of a queue's interrupt.
     fn set_queue_callback(&mut self, index: u32, on: bool) -> Result<(), Errno>
-        ensures does { (made : Made) (done : List StateAct) → Stands made done self.old →
+        ensures does { (made : DeviceShape) (done : List StateAct) → Stands made done self.old →
             Does made done (is_queue made index) (acts.Callback_set (subject (Some index)) on) result self.new }
         ensures counts { (most : ℕ) → CountsWithin most self.old → CountsWithin most self.new }
     {
@@ -268,8 +273,8 @@ impl State {
 
     /// Sets or removes the callback of a queue's interrupt, or of the config space's.
     pub fn set_callback(&mut self, index: Option<u32>, on: bool) -> Result<(), Errno>
-        ensures does { (made : Made) (done : List StateAct) → Stands made done self.old →
-            Does made done (is_there made (subject index)) (acts.Callback_set (subject index) on) result self.new }
+        ensures does { (made : DeviceShape) (done : List StateAct) → Stands made done self.old →
+            Does made done (is_queue_or_config made (subject index)) (acts.Callback_set (subject index) on) result self.new }
         ensures counts { (most : ℕ) → CountsWithin most self.old → CountsWithin most self.new }
     {
         match index {
@@ -285,7 +290,7 @@ impl State {
     /// Injects an interrupt of a queue.
     fn inject_queue(&mut self, index: u32) -> Result<(), Errno>
         requires { (q : Queue) → slice_get self.old.queues index ≡ Some q → q.interrupts < 2 ^ 62 }
-        ensures does { (made : Made) (done : List StateAct) → Stands made done self.old →
+        ensures does { (made : DeviceShape) (done : List StateAct) → Stands made done self.old →
             Does made done (is_queue made index) (acts.Injected (subject (Some index))) result self.new }
         ensures counts { (most : ℕ) → CountsWithin most self.old → CountsWithin (most + 1) self.new }
     {
@@ -298,8 +303,8 @@ impl State {
     /// and a queue is ready too. It is refused until the driver drives the device.
     pub fn inject(&mut self, index: Option<u32>) -> Result<(), Errno>
         requires { InterruptsCanRise self.old index }
-        ensures does { (made : Made) (done : List StateAct) → Stands made done self.old →
-            Does made done (is_there made (subject index) && is_driver_ok done) (acts.Injected (subject index)) result self.new }
+        ensures does { (made : DeviceShape) (done : List StateAct) → Stands made done self.old →
+            Does made done (is_queue_or_config made (subject index) && is_driver_ok done) (acts.Injected (subject index)) result self.new }
         ensures counts { (most : ℕ) → CountsWithin most self.old → CountsWithin (most + 1) self.new }
     {
         if !is_driven(self.status) {
@@ -316,7 +321,7 @@ impl State {
 
     /// Takes the count of a queue's interrupt.
     fn take_queue_irqs(&mut self, index: u32) -> Result<u64, Errno>
-        ensures takes { (made : Made) (done : List StateAct) → Stands made done self.old →
+        ensures takes { (made : DeviceShape) (done : List StateAct) → Stands made done self.old →
             TakesInterrupts made done (subject (Some index)) result self.new }
         ensures counts { (most : ℕ) → CountsWithin most self.old → CountsWithin most self.new }
     {
@@ -331,7 +336,7 @@ impl State {
 
     /// Takes the count of a queue's interrupt, or of the config space's.
     pub fn take_irqs(&mut self, index: Option<u32>) -> Result<u64, Errno>
-        ensures takes { (made : Made) (done : List StateAct) → Stands made done self.old →
+        ensures takes { (made : DeviceShape) (done : List StateAct) → Stands made done self.old →
             TakesInterrupts made done (subject index) result self.new }
         ensures counts { (most : ℕ) → CountsWithin most self.old → CountsWithin most self.new }
     {
@@ -347,7 +352,7 @@ impl State {
 
     /// Whether each queue has a largest size.
     pub fn all_set_up(&self) -> bool
-        ensures { (made : Made) (done : List StateAct) → Stands made done self.now →
+        ensures { (made : DeviceShape) (done : List StateAct) → Stands made done self.now →
             result ≡ acts.are_set_up done made.queues }
     {
         are_set_up(&self.queues)
@@ -355,7 +360,7 @@ impl State {
 
     /// Resets the state. The largest sizes and the offered features stay.
     pub fn reset(&mut self)
-        ensures stands { (made : Made) (done : List StateAct) → Stands made done self.old →
+        ensures stands { (made : DeviceShape) (done : List StateAct) → Stands made done self.old →
             Stands made (acts.Cleared ∷ done) self.new }
         ensures counts { (most : ℕ) → CountsWithin most self.old → CountsWithin 0 self.new }
     {

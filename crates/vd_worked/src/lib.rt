@@ -7,7 +7,7 @@
 #[cfg(test)]
 mod tests;
 
-ghost use Rattle.vd_worked.specs.Sessions.{BouncedWrite, BusAndCoherent, ControlNode, DriverRing, EmptyInput, FirstLoadTwoDevices, FirstLoad, FramesBetweenDevices, FullBounce, HeldBySession, IoctlFeatures, IoctlRefusals, Kicks, LargePage, LookupAndReset, MapRefusals, OldBytesShow, PlacementLarge, Placement, RawMessages, Registration, Requeue, ShortTail, TimeoutNone, Timeout, WalkFaults, HostileAbsentPage, HostileAddressPastTheEnd, HostileIndexTooFar, HostileNoRequest, HostileRingNowhere, DaemonLoss, WholeSessionOwned, WholeSession, FailingImage};
+ghost use Rattle.vd_worked.specs.Sessions.{BouncedWrite, BusAndCoherent, ControlNode, DriverRing, EmptyInput, FirstLoadTwoDevices, FirstLoad, FramesBetweenDevices, FullBounce, HeldBySession, IoctlFeatures, IoctlRefusals, Kicks, LargePage, LookupAndReset, MapRefusals, OldBytesShow, PlacementLarge, Placement, RawMessages, AreaRegistration, Requeue, ShortTail, TimeoutNone, Timeout, WalkFaults, HostileAbsentPage, HostileAddressPastTheEnd, HostileIndexTooFar, HostileNoRequest, HostileRingNowhere, DaemonLoss, WholeSessionOwned, WholeSession, FailingImage};
 
 /// The definitions answer each worked session as it stands in `specs/Sessions.antt`.
 pub fn sessions()
@@ -31,7 +31,7 @@ pub fn sessions()
     ensures placement_large { PlacementLarge }
     ensures placement { Placement }
     ensures raw_messages { RawMessages }
-    ensures registration { Registration }
+    ensures registration { AreaRegistration }
     ensures requeue { Requeue }
     ensures short_tail { ShortTail }
     ensures timeout_none { TimeoutNone }

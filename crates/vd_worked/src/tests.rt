@@ -1,3 +1,5 @@
+//! Lists of the model and of numbers, each grown once.
+
 use std::test::Fail;
 use vd_model::{Item, Items, Part, Parts, Tag};
 use vd_num::{Bytes, Lines, Name, Words};

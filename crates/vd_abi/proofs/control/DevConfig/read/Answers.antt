@@ -3,7 +3,7 @@ use Rattle.std.proofs.lemmas.Bool.{false≢true}
 use Rattle.std.specs.Prelude.{slice_range}
 use Rattle.vd_num.specs.Field.{field_at}
 use Rattle.std.proofs.lemmas.List.{length-drop}
-use Rattle.vd_abi.specs.Layout.{are_zero}
+use Rattle.vd_model.specs.Raw.{are_zero}
 use Rattle.vd_abi.specs.Structs.{dev_config, is_dev_config}
 use Rattle.vd_abi.proofs.Layouts.{shows-laid_out, length-laid_out}
 use Rattle.vd_abi.proofs.Same.{same_dev_config}

@@ -2,7 +2,7 @@ use Rattle.std.proofs.Common.{◌∙◌, refl, sym, ap, [], ◌++◌, ◌∷◌}
 use Rattle.vd_msg.specs.Lists.{has_id}
 use Rattle.vd_msg.specs.Inside.{lists_of}
 use Rattle.vd_msg.proofs.Seen.{stands_inside, stands_with}
-use Rattle.vd_msg.proofs.Found.{without_none}
+use Rattle.vd_msg.proofs.Found.{without_first_none}
 use Rattle.vd_msg.proofs.Ends.{answer_makes, refused_answer, refused_makes, holds_id}
 use Rattle.vd_msg.proofs.messages.Messages.answer.Goals as goal
 
@@ -15,7 +15,7 @@ returns-clause-says c = λ start done s. sym (holds_id start done _ (stands_insi
 pub returns-in-None-clause-stands : goal.returns-in-None-clause-stands
 returns-in-None-clause-stands c = λ start done s.
     let none = sym c.in-None.ensures.found in
-    let same = c.in-None.ensures.rest ∙ without_none (has_id c.args.id) c.self.inside.held.items none in
+    let same = c.in-None.ensures.rest ∙ without_first_none (has_id c.args.id) c.self.inside.held.items none in
     stands_with (lists_of c.self.inside) refl same refl (refused_makes start done (lists_of c.self.inside) (stands_inside c.self.view_is s) c.args.id c.args.code c.args.avail none)
 
 pub returns-clause-stands : goal.returns-clause-stands

@@ -1,7 +1,7 @@
 use Rattle.std.proofs.Common.{◌∙◌, refl, sym}
 use Rattle.vd_msg.specs.Inside.{lists_of}
 use Rattle.vd_msg.specs.Lists.{has_ended_id}
-use Rattle.vd_msg.proofs.Found.{without_none}
+use Rattle.vd_msg.proofs.Found.{without_first_none}
 use Rattle.vd_msg.proofs.Seen.{stands_inside, stands_with}
 use Rattle.vd_msg.proofs.Ends.{take_makes, unknown_makes}
 use Rattle.vd_msg.proofs.messages.Messages.take.Goals as goal
@@ -14,6 +14,6 @@ returns-clause-stands c = λ start done s.
     let not_waiting = sym c.if-has-2.ensures in
     elim c.match-take_ended.branch [
       | in-Some w ↦ stands_with (lists_of c.self.inside) refl refl w.in-Some.ensures.rest (take_makes start done (lists_of c.self.inside) inner c.args.id w.in-Some.ended not_held not_waiting (sym w.in-Some.ensures.found))
-      | in-None w ↦ stands_with (lists_of c.self.inside) refl refl (w.in-None.ensures.rest ∙ without_none (has_ended_id c.args.id) c.self.inside.ended.items (sym w.in-None.ensures.found))
+      | in-None w ↦ stands_with (lists_of c.self.inside) refl refl (w.in-None.ensures.rest ∙ without_first_none (has_ended_id c.args.id) c.self.inside.ended.items (sym w.in-None.ensures.found))
           (unknown_makes start done (lists_of c.self.inside) inner c.args.id not_held not_waiting (sym w.in-None.ensures.found))
     ]
