@@ -13,9 +13,9 @@ use Rattle.vd_model.specs.declared.answer.Item.TheVariants.{Word, Address, Text}
 use Rattle.vd_model.specs.declared.answer.Answer.TheVariants.{Bus}
 use Rattle.vd_model.specs.Setting.{Setting, bounce_size}
 use Rattle.vd_model.specs.Acts.{Act, NodeAct, Node, Daemon_put, Area_made, Area_put, Registered, Deregistered}
-use Rattle.vd_model.specs.Live.{Registration, registered, area_len}
+use Rattle.vd_model.specs.Live.{Registration, registration_of, area_len}
 use Rattle.vd_model.specs.Puts.{bus_bytes, area_bytes}
-use Rattle.vd_model.specs.Turn.{Turn, refuse, refused, given, told}
+use Rattle.vd_model.specs.Turn.{Turn, refuse, refusal_turn, refusal_if, done_with}
 use Rattle.vd_model.specs.AreaTurns.{first_bus, bus_or, first_region, daemon_regions, found_or, lookup_turn, iovainfo_turn, area_start, area_limit, part_refusal, may_register, area_turn}
 use Rattle.vd_laws.proofs.Legal.{Legal}
 use Rattle.vd_laws.proofs.Refusals.{IsLegal, refuse_legal, or_refused, not_given, not_not}
@@ -44,7 +44,7 @@ module _ (x : Setting) (done : List Act) (legal : Legal x done) where
 
   pub found_legal : (start last : ℕ) (turn : Region → Turn NodeAct) → ((r : Region) → IsLegal x Node done (turn r)) → IsLegal x Node done (found_or x done start last turn)
   found_legal start last turn h =
-      refuse_legal x Node done legal (given (nat_lt last start) Inval) (option_map_or turn (first_region (daemon_regions x done) start last) (refused Inval)) (λ e.
+      refuse_legal x Node done legal (refusal_if (nat_lt last start) Inval) (option_map_or turn (first_region (daemon_regions x done) start last) (refusal_turn Inval)) (λ e.
       or_refused x Node done legal turn (first_region (daemon_regions x done) start last) Inval (λ r f. h r))
 
   registers : (address iova size : ℕ) → may_register x done address iova size ≡ true → 0 < x.per_page
@@ -58,20 +58,20 @@ module _ (x : Setting) (done : List Act) (legal : Legal x done) where
   area_legal (area.Lookup start last) = found_legal start last lookup_turn (λ r. legal)
   area_legal (area.IovaInfo start last) = found_legal start last iovainfo_turn (λ r. legal)
   area_legal (area.Area len) =
-      let last : Turn NodeAct = refuse (given (is_some (registered done)) Busy) (told (Word Base ∷ Address area_start ∷ []) (Area_made len ∷ [])) in
-      refuse_legal x Node done legal (given ((len == 0) || not ((len % 4096) == 0) || nat_lt area_limit len) Inval) last (λ e.
-      refuse_legal x Node done legal (given (is_some (registered done)) Busy) (told (Word Base ∷ Address area_start ∷ []) (Area_made len ∷ [])) (λ f.
-      (is_none (registered done) (not_given _ Busy f), legal)))
-  area_legal (area.AreaPut at bytes) = refuse_legal x Node done legal (part_refusal (area_len done) at (length bytes)) (told [] (Area_put at bytes ∷ [])) (λ e. (tt, legal))
-  area_legal (area.AreaGet at len) = refuse_legal x Node done legal (part_refusal (area_len done) at len) (told (Text (area_bytes x.per_page done at len) ∷ []) []) (λ e. legal)
+      let last : Turn NodeAct = refuse (refusal_if (is_some (registration_of done)) Busy) (done_with (Word Base ∷ Address area_start ∷ []) (Area_made len ∷ [])) in
+      refuse_legal x Node done legal (refusal_if ((len == 0) || not ((len % 4096) == 0) || nat_lt area_limit len) Inval) last (λ e.
+      refuse_legal x Node done legal (refusal_if (is_some (registration_of done)) Busy) (done_with (Word Base ∷ Address area_start ∷ []) (Area_made len ∷ [])) (λ f.
+      (is_none (registration_of done) (not_given _ Busy f), legal)))
+  area_legal (area.AreaPut at bytes) = refuse_legal x Node done legal (part_refusal (area_len done) at (length bytes)) (done_with [] (Area_put at bytes ∷ [])) (λ e. (tt, legal))
+  area_legal (area.AreaGet at len) = refuse_legal x Node done legal (part_refusal (area_len done) at len) (done_with (Text (area_bytes x.per_page done at len) ∷ []) []) (λ e. legal)
   area_legal (area.RegUmem address iova size) =
-      let last : Turn NodeAct = refuse (given (is_some (registered done)) Exist) (told [] (Registered (address - area_start) (bounce_size x) ∷ [])) in
-      refuse_legal x Node done legal (given (not (may_register x done address iova size)) Inval) last (λ e.
-      refuse_legal x Node done legal (given (is_some (registered done)) Exist) (told [] (Registered (address - area_start) (bounce_size x) ∷ [])) (λ f.
-      ((is_none (registered done) (not_given _ Exist f), refl, registers address iova size (not_not _ (not_given _ Inval e))), legal)))
+      let last : Turn NodeAct = refuse (refusal_if (is_some (registration_of done)) Exist) (done_with [] (Registered (address - area_start) (bounce_size x) ∷ [])) in
+      refuse_legal x Node done legal (refusal_if (not (may_register x done address iova size)) Inval) last (λ e.
+      refuse_legal x Node done legal (refusal_if (is_some (registration_of done)) Exist) (done_with [] (Registered (address - area_start) (bounce_size x) ∷ [])) (λ f.
+      ((is_none (registration_of done) (not_given _ Exist f), refl, registers address iova size (not_not _ (not_given _ Inval e))), legal)))
   area_legal (area.DeregUmem iova size) =
-      let last : Turn NodeAct = refuse (given (not ((iova == 0) && (size == bounce_size x))) Inval) (told [] (Deregistered ∷ [])) in
-      refuse_legal x Node done legal (given (not (is_some (registered done))) Noent) last (λ e.
-      refuse_legal x Node done legal (given (not ((iova == 0) && (size == bounce_size x))) Inval) (told [] (Deregistered ∷ [])) (λ f. (tt, legal)))
-  area_legal (area.Load at len) = bus_legal at len (told (Text (bus_bytes x.per_page done at len) ∷ []) []) legal
-  area_legal (area.Store at bytes) = bus_legal at (length bytes) (told [] (Daemon_put at bytes ∷ [])) (tt, legal)
+      let last : Turn NodeAct = refuse (refusal_if (not ((iova == 0) && (size == bounce_size x))) Inval) (done_with [] (Deregistered ∷ [])) in
+      refuse_legal x Node done legal (refusal_if (not (is_some (registration_of done))) Noent) last (λ e.
+      refuse_legal x Node done legal (refusal_if (not ((iova == 0) && (size == bounce_size x))) Inval) (done_with [] (Deregistered ∷ [])) (λ f. (tt, legal)))
+  area_legal (area.Load at len) = bus_legal at len (done_with (Text (bus_bytes x.per_page done at len) ∷ []) []) legal
+  area_legal (area.Store at bytes) = bus_legal at (length bytes) (done_with [] (Daemon_put at bytes ∷ [])) (tt, legal)

@@ -18,17 +18,17 @@ use Rattle.vd_model.specs.Setting.{Setting}
 use Rattle.vd_model.specs.Creation.{Creation}
 use Rattle.vd_model.specs.Acts.{Act, NodeAct, Node, Driver}
 use Rattle.vd_model.specs.Puts.{Ram, last_put, ram}
-use Rattle.vd_model.specs.Turn.{Turn, refuse, refused, lift}
+use Rattle.vd_model.specs.Turn.{Turn, refuse, refusal_turn, lift}
 use Rattle.vd_model.specs.Raw.{Ioctl, Plain_node, Plain_area, Find_entry, Find_info, Tell_features, ioctl_of}
 use Rattle.vd_model.specs.AreaTurns.{found_or, area_turn}
 use Rattle.vd_model.specs.NodeTurns.{plain_turn, ioctl_turn, open_node_turn}
-use Rattle.vd_model.specs.Deeds.{Deed, own, Seen, seen}
-use Rattle.vd_model.specs.History.{History, deeds_of, disk_of, needs_session, dev_turn, queue_turn, device_turn, device_queue_turn, on, outcome}
+use Rattle.vd_model.specs.Deeds.{Deed, acts_of_device, Seen, device_view}
+use Rattle.vd_model.specs.History.{History, deeds_of, disk_of, needs_session, dev_turn, queue_turn, device_turn, device_queue_turn, device_outcome, outcome}
 use Rattle.vd_laws.specs.Runs.{acts_of}
 use Rattle.vd_laws.specs.MemoryLaw.{is_daemons}
 use Rattle.vd_laws.proofs.Plain.{is_plain, IsPlain, node_plain}
 use Rattle.vd_laws.proofs.PlainQueues.{walk_plain, fetch_plain, execute_plain, finish_plain}
-use Rattle.vd_laws.proofs.Turns.{own_on}
+use Rattle.vd_laws.proofs.Turns.{acts_of_device_on}
 
 -- the act isn't a driver's
 abbrev is_other : Act → Bool
@@ -76,7 +76,7 @@ node_line_others : (x : Setting) (made : Creation) (s : Seen) (step : NodeStep) 
 node_line_others x made s step = refuse_others _ (open_node_turn x made s.acts step) (opened_others x made s.acts step)
 
 -- a turn on a device that is there, and else a refusal
-made_others : (turn : Creation → Turn Act) (o : Option Creation) (errno : Errno) → ((made : Creation) → IsOthers (turn made)) → IsOthers (option_map_or turn o (refused errno))
+made_others : (turn : Creation → Turn Act) (o : Option Creation) (errno : Errno) → ((made : Creation) → IsOthers (turn made)) → IsOthers (option_map_or turn o (refusal_turn errno))
 made_others turn None errno e = refl
 made_others turn (Some made) errno e = e made
 
@@ -92,35 +92,35 @@ others_ram g (act ∷ made) acts k i e =
     let p = and_parts (is_other act) (list_all is_other made) e in
     next_ram g act (made ++ acts) k i p.0 ∙ others_ram g made acts k i p.1
 
-turn_ram : (g : ℕ) (d name : List ℕ) (turn : Turn Act) (done : List Deed) (k i : ℕ) → IsOthers turn → last_put g (own d ((on name turn).deeds ++ done)) (Ram k i) ≡ last_put g (own d done) (Ram k i)
-turn_ram g d name turn done k i e = ap (λ l. last_put g l (Ram k i)) (own_on d name turn.acts done) ∙ by (bytes_eq d name) where
-  by : (b : Bool) → last_put g ((if b then turn.acts else []) ++ own d done) (Ram k i) ≡ last_put g (own d done) (Ram k i)
-  by true = others_ram g turn.acts (own d done) k i e
+turn_ram : (g : ℕ) (d name : List ℕ) (turn : Turn Act) (done : List Deed) (k i : ℕ) → IsOthers turn → last_put g (acts_of_device d ((device_outcome name turn).deeds ++ done)) (Ram k i) ≡ last_put g (acts_of_device d done) (Ram k i)
+turn_ram g d name turn done k i e = ap (λ l. last_put g l (Ram k i)) (acts_of_device_on d name turn.acts done) ∙ by (bytes_eq d name) where
+  by : (b : Bool) → last_put g ((if b then turn.acts else []) ++ acts_of_device d done) (Ram k i) ≡ last_put g (acts_of_device d done) (Ram k i)
+  by true = others_ram g turn.acts (acts_of_device d done) k i e
   by false = refl
 
-dev_ram : (g : ℕ) (x : Setting) (done : List Deed) (d name : List ℕ) (step : DevStep) (k i : ℕ) → ((made : Creation) → IsOthers (dev_turn x made (seen x name done) step))
-    → last_put g (own d ((on name (device_turn x (seen x name done) step)).deeds ++ done)) (Ram k i) ≡ last_put g (own d done) (Ram k i)
+dev_ram : (g : ℕ) (x : Setting) (done : List Deed) (d name : List ℕ) (step : DevStep) (k i : ℕ) → ((made : Creation) → IsOthers (dev_turn x made (device_view x name done) step))
+    → last_put g (acts_of_device d ((device_outcome name (device_turn x (device_view x name done) step)).deeds ++ done)) (Ram k i) ≡ last_put g (acts_of_device d done) (Ram k i)
 dev_ram g x done d name step k i e =
-    turn_ram g d name (device_turn x (seen x name done) step) done k i (made_others (λ made. dev_turn x made (seen x name done) step) (seen x name done).made Nodev e)
+    turn_ram g d name (device_turn x (device_view x name done) step) done k i (made_others (λ made. dev_turn x made (device_view x name done) step) (device_view x name done).made Nodev e)
 
-queue_ram : (g : ℕ) (x : Setting) (done : List Deed) (d name : List ℕ) (failed : Bool) (step : QueueStep) (k i : ℕ) → ((made : Creation) → IsOthers (queue_turn x made name (seen x name done) failed step))
-    → last_put g (own d ((on name (device_queue_turn x name (seen x name done) failed step)).deeds ++ done)) (Ram k i) ≡ last_put g (own d done) (Ram k i)
+queue_ram : (g : ℕ) (x : Setting) (done : List Deed) (d name : List ℕ) (failed : Bool) (step : QueueStep) (k i : ℕ) → ((made : Creation) → IsOthers (queue_turn x made name (device_view x name done) failed step))
+    → last_put g (acts_of_device d ((device_outcome name (device_queue_turn x name (device_view x name done) failed step)).deeds ++ done)) (Ram k i) ≡ last_put g (acts_of_device d done) (Ram k i)
 queue_ram g x done d name failed step k i e =
-    turn_ram g d name (device_queue_turn x name (seen x name done) failed step) done k i (made_others (λ made. queue_turn x made name (seen x name done) failed step) (seen x name done).made Nodev e)
+    turn_ram g d name (device_queue_turn x name (device_view x name done) failed step) done k i (made_others (λ made. queue_turn x made name (device_view x name done) failed step) (device_view x name done).made Nodev e)
 
 -- the block daemon's turns
 session_others : (s : Seen) (turn : Turn Act) → IsPlain turn → IsOthers (needs_session s.acts turn)
 session_others s turn e = refuse_others _ turn (plain_others turn.acts e)
 
 step_ram : (x : Setting) (done : List Deed) (d : List ℕ) (step : Step) (failed : Bool) → is_daemons step ≡ true
-    → (k i : ℕ) → last_put x.per_page (own d ((outcome x done step failed).deeds ++ done)) (Ram k i) ≡ last_put x.per_page (own d done) (Ram k i)
-step_ram x done d (Device name (line.Node step)) failed e k i = dev_ram x.per_page x done d name (line.Node step) k i (λ made. node_line_others x made (seen x name done) step)
-step_ram x done d (Device name (line.Area step)) failed e k i = dev_ram x.per_page x done d name (line.Area step) k i (λ made. area_others x made (seen x name done) step)
-step_ram x done d (Queue name (queue.Walk q head)) failed e k i = queue_ram x.per_page x done d name failed (queue.Walk q head) k i (λ made. session_others (seen x name done) _ (walk_plain x made (own name done) q head))
-step_ram x done d (Queue name (queue.Fetch q)) failed e k i = queue_ram x.per_page x done d name failed (queue.Fetch q) k i (λ made. session_others (seen x name done) _ (fetch_plain x made (own name done) q))
+    → (k i : ℕ) → last_put x.per_page (acts_of_device d ((outcome x done step failed).deeds ++ done)) (Ram k i) ≡ last_put x.per_page (acts_of_device d done) (Ram k i)
+step_ram x done d (Device name (line.Node step)) failed e k i = dev_ram x.per_page x done d name (line.Node step) k i (λ made. node_line_others x made (device_view x name done) step)
+step_ram x done d (Device name (line.Area step)) failed e k i = dev_ram x.per_page x done d name (line.Area step) k i (λ made. area_others x made (device_view x name done) step)
+step_ram x done d (Queue name (queue.Walk q head)) failed e k i = queue_ram x.per_page x done d name failed (queue.Walk q head) k i (λ made. session_others (device_view x name done) _ (walk_plain x made (acts_of_device name done) q head))
+step_ram x done d (Queue name (queue.Fetch q)) failed e k i = queue_ram x.per_page x done d name failed (queue.Fetch q) k i (λ made. session_others (device_view x name done) _ (fetch_plain x made (acts_of_device name done) q))
 step_ram x done d (Queue name (queue.Execute q)) failed e k i =
-    queue_ram x.per_page x done d name failed (queue.Execute q) k i (λ made. session_others (seen x name done) _ (execute_plain x made (disk_of made name (seen x name done)) failed (own name done) q))
-step_ram x done d (Queue name (queue.Finish q)) failed e k i = queue_ram x.per_page x done d name failed (queue.Finish q) k i (λ made. session_others (seen x name done) _ (finish_plain x made (own name done) q))
+    queue_ram x.per_page x done d name failed (queue.Execute q) k i (λ made. session_others (device_view x name done) _ (execute_plain x made (disk_of made name (device_view x name done)) failed (acts_of_device name done) q))
+step_ram x done d (Queue name (queue.Finish q)) failed e k i = queue_ram x.per_page x done d name failed (queue.Finish q) k i (λ made. session_others (device_view x name done) _ (finish_plain x made (acts_of_device name done) q))
 step_ram x done d _ failed e k i = cc
 
 pub daemons_ram : (x : Setting) (h : History) (d : List ℕ) (step : Step) (failed : Bool) → is_daemons step ≡ true

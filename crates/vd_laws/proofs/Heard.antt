@@ -24,17 +24,17 @@ use Rattle.vd_model.specs.declared.answer.Item.{Item}
 use Rattle.vd_model.specs.declared.answer.Item.TheVariants.{Word, Number}
 use Rattle.vd_model.specs.Setting.{Setting}
 use Rattle.vd_model.specs.Creation.{Creation, has_feature}
-use Rattle.vd_model.specs.Acts.{Act, NodeAct, Node, Driver, Bus, Closed, Queue, Message_act, State, Disk, Stored, message_acts}
+use Rattle.vd_model.specs.Acts.{Act, NodeAct, Node, Driver, Bus, Closed, Queue, Message_act, State, Disk_act, Stored, message_acts}
 use Rattle.vd_model.specs.State.{Cleared, Status_set}
-use Rattle.vd_model.specs.Live.{is_open, registered, Registration}
-use Rattle.vd_model.specs.Messages.{MessageAct, Sent, Received, Answered, Lost, Timed, Took, next, next_id, is_held, is_broken, told, message_of, id_limit}
+use Rattle.vd_model.specs.Live.{is_open, registration_of, Registration}
+use Rattle.vd_model.specs.Messages.{MessageAct, Sent, Received, Answered, Lost, Timed, Took, next_message, next_id, is_held, is_broken, message_told, message_of, id_limit}
 use Rattle.vd_model.specs.Raw.{Ioctl, Plain_node, Plain_area, Find_entry, Find_info, Tell_features, ioctl_of}
-use Rattle.vd_model.specs.Turn.{Turn, refused, refuse, given, lift}
+use Rattle.vd_model.specs.Turn.{Turn, refusal_turn, refuse, refusal_if, lift, done_with}
 use Rattle.vd_model.specs.Block as block
 use Rattle.vd_model.specs.Puts.{each_from}
 use Rattle.vd_model.specs.DaemonTurns.{executed_turn, execute_hand, execute_turn, Hand}
-use Rattle.vd_model.specs.BusTurns.{done_with, device_start, send_turn, reset_turn, taken, asks_reset, take_turn, attached_turn, bus_turn}
-use Rattle.vd_model.specs.NodeTurns.{ended, close_turn, received_as, answered_with, response_turn, plain_turn, ioctl_turn, open_node_turn, node_turn}
+use Rattle.vd_model.specs.BusTurns.{device_start, send_turn, reset_turn, message_end_acts, asks_reset, take_turn, attached_turn, bus_turn}
+use Rattle.vd_model.specs.NodeTurns.{registration_end, close_turn, received_as, answered_with, response_turn, plain_turn, ioctl_turn, open_node_turn, node_turn}
 use Rattle.vd_model.specs.Deeds.{Seen}
 use Rattle.vd_model.specs.History.{dev_turn, queue_turn, device_turn, device_queue_turn, disk_of}
 use Rattle.vd_laws.proofs.Quiet.{are_quiet, Quiet, nodes_quiet, drivers_quiet, message_acts-append, quiet_unheard, refuse_quiet, option_quiet, walk_quiet, fetch_quiet, finish_quiet, ring_quiet, unring_quiet, add_quiet, publish_quiet, submit_quiet, poll_quiet}
@@ -44,7 +44,7 @@ use Rattle.vd_laws.proofs.Quiet.{are_quiet, Quiet, nodes_quiet, drivers_quiet, m
 -- what a turn tested when it made an act on messages
 abbrev pub Admits : List MessageAct → MessageAct → Type 0
 Admits acts (Sent m) = m.id ≡ next_id device_start acts
-Admits acts (Received id) = (m : Message) × (next acts ≡ Some m) × (m.id ≡ id)
+Admits acts (Received id) = (m : Message) × (next_message acts ≡ Some m) × (m.id ≡ id)
 Admits acts (Answered id result avail) = is_held acts id ≡ true
 Admits acts _ = Unit {0}
 
@@ -55,7 +55,7 @@ Legal (act ∷ acts) = Admits acts act × Legal acts
 -- what is stored lies within so many bytes
 abbrev pub Fits : ℕ → List Act → Type 0
 Fits room [] = Unit {0}
-Fits room (Disk (Stored at bytes) ∷ acts) = (at + length bytes ≤ room) × Fits room acts
+Fits room (Disk_act (Stored at bytes) ∷ acts) = (at + length bytes ≤ room) × Fits room acts
 Fits room (_ ∷ acts) = Fits room acts
 
 pub record Fair (room : ℕ) (done : List Act) (turn : Turn Act) : Type 0 where
@@ -67,7 +67,7 @@ pub record Fair (room : ℕ) (done : List Act) (turn : Turn Act) : Type 0 where
 quiet_fits : (room : ℕ) (acts : List Act) → are_quiet acts ≡ true → Fits room acts
 quiet_fits room [] h = tt
 quiet_fits room (Message_act act ∷ acts) h = cc
-quiet_fits room (Disk act ∷ acts) h = cc
+quiet_fits room (Disk_act act ∷ acts) h = cc
 quiet_fits room (Node act ∷ acts) h = quiet_fits room acts h
 quiet_fits room (Driver act ∷ acts) h = quiet_fits room acts h
 quiet_fits room (Bus act ∷ acts) h = quiet_fits room acts h
@@ -77,7 +77,7 @@ quiet_fits room (Queue act ∷ acts) h = quiet_fits room acts h
 said_fits : (room : ℕ) (front rest : List Act) (act : MessageAct) → are_quiet front ≡ true → are_quiet rest ≡ true → Fits room (front ++ Message_act act ∷ rest)
 said_fits room [] rest act h k = quiet_fits room rest k
 said_fits room (Message_act other ∷ front) rest act h k = cc
-said_fits room (Disk other ∷ front) rest act h k = cc
+said_fits room (Disk_act other ∷ front) rest act h k = cc
 said_fits room (Node other ∷ front) rest act h k = said_fits room front rest act h k
 said_fits room (Driver other ∷ front) rest act h k = said_fits room front rest act h k
 said_fits room (Bus other ∷ front) rest act h k = said_fits room front rest act h k
@@ -92,9 +92,9 @@ heard_after front rest done act h k =
     message_acts-append (front ++ Message_act act ∷ rest) done
     ∙ ap (λ l. l ++ message_acts done) (message_acts-append front (Message_act act ∷ rest) ∙ (ap (λ l. l ++ act ∷ message_acts rest) (quiet_unheard front h) ∙ ap (λ l. act ∷ l) (quiet_unheard rest k)))
 
-pub ended_quiet : (o : Option Registration) → are_quiet (ended o) ≡ true
-ended_quiet None = refl
-ended_quiet (Some r) = refl
+pub registration_end_quiet : (o : Option Registration) → are_quiet (registration_end o) ≡ true
+registration_end_quiet None = refl
+registration_end_quiet (Some r) = refl
 
 -- ---- turns
 
@@ -114,11 +114,11 @@ module _ (room : ℕ) (done : List Act) where
 
   refuse_fair : (o : Option Errno) (turn : Turn Act) → Fair room done turn → Fair room done (refuse o turn)
   refuse_fair None turn h = h
-  refuse_fair (Some errno) turn h = quiet_fair (refused errno) refl
+  refuse_fair (Some errno) turn h = quiet_fair (refusal_turn errno) refl
 
   -- a turn of which nothing more is known than that its test let it through
-  tested_fair : (b : Bool) (errno : Errno) (turn : Turn Act) → (b ≡ false → Fair room done turn) → Fair room done (refuse (given b errno) turn)
-  tested_fair true errno turn h = quiet_fair (refused errno) refl
+  tested_fair : (b : Bool) (errno : Errno) (turn : Turn Act) → (b ≡ false → Fair room done turn) → Fair room done (refuse (refusal_if b errno) turn)
+  tested_fair true errno turn h = quiet_fair (refusal_turn errno) refl
   tested_fair false errno turn h = h refl
 
   lifted_fair : (turn : Turn NodeAct) → Fair room done (lift Node turn)
@@ -127,23 +127,23 @@ module _ (room : ℕ) (done : List Act) where
   -- ---- the node
 
   close_fair : Fair room done (close_turn done)
-  close_fair = said_fair (Done []) [] (Node Closed ∷ ended (registered done)) Lost refl (ended_quiet (registered done)) tt
+  close_fair = said_fair (Done []) [] (Node Closed ∷ registration_end (registration_of done)) Lost refl (registration_end_quiet (registration_of done)) tt
 
   received_fair : (items : Message → List Item) → Fair room done (received_as items done)
-  received_fair items = by (next (message_acts done)) refl where
-    by : (o : Option Message) → next (message_acts done) ≡ o → Fair room done (option_map_or (λ m. done_with (items m) (Message_act (Received m.id) ∷ [])) o (refused Again))
-    by None e = quiet_fair (refused Again) refl
+  received_fair items = by (next_message (message_acts done)) refl where
+    by : (o : Option Message) → next_message (message_acts done) ≡ o → Fair room done (option_map_or (λ m. done_with (items m) (Message_act (Received m.id) ∷ [])) o (refusal_turn Again))
+    by None e = quiet_fair (refusal_turn Again) refl
     by (Some m) e = said_fair (Done (items m)) [] [] (Received m.id) refl refl (m, e, refl)
 
   answered_fair : (items : List Item) (id result avail : ℕ) → Fair room done (answered_with items done id result avail)
   answered_fair items id result avail = by (is_held (message_acts done) id) refl where
-    by : (b : Bool) → is_held (message_acts done) id ≡ b → Fair room done (refuse (given (not b) Noent) (done_with items (Message_act (Answered id result avail) ∷ [])))
+    by : (b : Bool) → is_held (message_acts done) id ≡ b → Fair room done (refuse (refusal_if (not b) Noent) (done_with items (Message_act (Answered id result avail) ∷ [])))
     by true e = said_fair (Done items) [] [] (Answered id result avail) refl refl e
-    by false e = quiet_fair (refused Noent) refl
+    by false e = quiet_fair (refusal_turn Noent) refl
 
   response_fair : (step : NodeStep) → Fair room done (response_turn done step)
   response_fair (node.Answer id result avail) = answered_fair (Number 152 ∷ []) id result avail
-  response_fair _ = quiet_fair (refused Inval) refl
+  response_fair _ = quiet_fair (refusal_turn Inval) refl
 
   plain_fair : (made : Creation) (step : NodeStep) → Fair room done (plain_turn made done step)
   plain_fair made node.Open = quiet_fair (plain_turn made done node.Open) (search refuse_quiet)
@@ -160,10 +160,10 @@ module _ (room : ℕ) (done : List Act) where
   plain_fair made (node.Answer id result avail) = answered_fair [] id result avail
   plain_fair made (node.Read len) = search (refuse_fair, received_fair)
   plain_fair made (node.Write bytes) = search (refuse_fair, response_fair)
-  plain_fair made (node.Ioctl number bytes) = quiet_fair (refused Inval) refl
+  plain_fair made (node.Ioctl number bytes) = quiet_fair (refusal_turn Inval) refl
 
   ioctl_fair : (x : Setting) (made : Creation) (o : Option Ioctl) → Fair room done (ioctl_turn x made done o)
-  ioctl_fair x made None = quiet_fair (refused Inval) refl
+  ioctl_fair x made None = quiet_fair (refusal_turn Inval) refl
   ioctl_fair x made (Some (Plain_node step)) = plain_fair made step
   ioctl_fair x made (Some (Plain_area step)) = lifted_fair _
   ioctl_fair x made (Some (Find_entry start last)) = lifted_fair _
@@ -196,7 +196,7 @@ module _ (room : ℕ) (done : List Act) where
   send_fair now says =
       let sent : Fair room done (done_with (Word Id ∷ Number (next_id device_start (message_acts done)) ∷ []) (Message_act (Sent (message_of device_start (message_acts done) says now)) ∷ []))
       = said_fair (Done (Word Id ∷ Number (next_id device_start (message_acts done)) ∷ [])) [] [] (Sent (message_of device_start (message_acts done) says now)) refl refl refl in
-      refuse_fair (given (is_broken (message_acts done)) Io) _ (refuse_fair (given (next_id device_start (message_acts done) == id_limit) Nospc) _ sent)
+      refuse_fair (refusal_if (is_broken (message_acts done)) Io) _ (refuse_fair (refusal_if (next_id device_start (message_acts done) == id_limit) Nospc) _ sent)
 
   reset_fair : (now : ℕ) → Fair room done (reset_turn now done)
   reset_fair now = by (is_broken (message_acts done)) where
@@ -204,20 +204,20 @@ module _ (room : ℕ) (done : List Act) where
     by true = quiet_fair (record { answer = Err Io; acts = State Cleared ∷ [] }) refl
     by false = send_fair now (body.Status 0)
 
-  taken_fair : (answer : Answer) (id : ℕ) (says : Body) (more : List Act) → are_quiet more ≡ true → Fair room done (record { answer = answer; acts = taken id says more })
-  taken_fair answer id says more h = by (asks_reset says) where
+  message_end_acts_fair : (answer : Answer) (id : ℕ) (says : Body) (more : List Act) → are_quiet more ≡ true → Fair room done (record { answer = answer; acts = message_end_acts id says more })
+  message_end_acts_fair answer id says more h = by (asks_reset says) where
     by : (b : Bool) → Fair room done (record { answer = answer; acts = (if b then State Cleared ∷ [] else more) ++ Message_act (Took id) ∷ [] })
     by true = said_fair answer (State Cleared ∷ []) [] (Took id) refl refl tt
     by false = said_fair answer more [] (Took id) h refl tt
 
   take_fair : (id : ℕ) (answer : TakeAnswer) → Fair room done (take_turn id answer)
   take_fair id end.Pending = quiet_fair (take_turn id end.Pending) refl
-  take_fair id end.Unknown = quiet_fair (refused Noent) refl
-  take_fair id (end.Done (body.Status value) avail) = taken_fair _ id (body.Status value) (State (Status_set value) ∷ []) refl
-  take_fair id (end.Done (body.VqState index) avail) = taken_fair _ id (body.VqState index) [] refl
-  take_fair id (end.Done (body.Iotlb range) avail) = taken_fair _ id (body.Iotlb range) [] refl
-  take_fair id (end.FailedByReply says result) = taken_fair _ id says [] refl
-  take_fair id (end.FailedByTimeout says deadline now) = taken_fair _ id says [] refl
+  take_fair id end.Unknown = quiet_fair (refusal_turn Noent) refl
+  take_fair id (end.Done (body.Status value) avail) = message_end_acts_fair _ id (body.Status value) (State (Status_set value) ∷ []) refl
+  take_fair id (end.Done (body.VqState index) avail) = message_end_acts_fair _ id (body.VqState index) [] refl
+  take_fair id (end.Done (body.Iotlb range) avail) = message_end_acts_fair _ id (body.Iotlb range) [] refl
+  take_fair id (end.FailedByReply says result) = message_end_acts_fair _ id says [] refl
+  take_fair id (end.FailedByTimeout says deadline now) = message_end_acts_fair _ id says [] refl
 
   attached_fair : (made : Creation) (now : ℕ) (step : BusStep) → Fair room done (attached_turn made now done step)
   attached_fair made now bus.Attach = quiet_fair (attached_turn made now done bus.Attach) (search refuse_quiet)
@@ -237,7 +237,7 @@ module _ (room : ℕ) (done : List Act) where
   attached_fair made now (bus.Irqs on) = quiet_fair (attached_turn made now done (bus.Irqs on)) (search refuse_quiet)
   attached_fair made now (bus.GetConfig offset len) = quiet_fair (attached_turn made now done (bus.GetConfig offset len)) (search refuse_quiet)
   attached_fair made now (bus.Timeout seconds) = said_fair (Done []) [] [] (Timed seconds) refl refl tt
-  attached_fair made now (bus.Take id) = take_fair id (told (message_acts done) id)
+  attached_fair made now (bus.Take id) = take_fair id (message_told (message_acts done) id)
 
   bus_fair : (made : Creation) (now : ℕ) (step : BusStep) → Fair room done (bus_turn made now done step)
   bus_fair made now step = search (refuse_fair, attached_fair)
@@ -263,7 +263,7 @@ stores_inside disk b failed h = by (b.kind == 0) (b.kind == 1) (b.kind == 4) (b.
   names true e = cc
   names false e = cc
 
-  by : (in_kind out flush id : Bool) → (if in_kind then block.read_result disk b failed else if out then block.write_result disk b failed else if flush then block.ends_with b (block.status_of failed) else if id then block.id_result disk b else block.ends_with b 2).stores ≡ true
+  by : (in_kind out flush id : Bool) → (if in_kind then block.read_result disk b failed else if out then block.write_result disk b failed else if flush then block.ends_with b (block.request_status failed) else if id then block.id_result disk b else block.ends_with b 2).stores ≡ true
       → 512 * b.sector + length b.payload ≤ 512 * disk.sectors
   by true out flush id e = reads _ e
   by false true flush id e = writes (length b.payload % 512 == 0) (nat_lt disk.sectors (b.sector + length b.payload / 512)) (has_feature disk.features 5) failed refl refl e
@@ -272,7 +272,7 @@ stores_inside disk b failed h = by (b.kind == 0) (b.kind == 1) (b.kind == 4) (b.
   by false false false false e = cc
 
 module _ (disk : block.Disk) (done : List Act) where
-  stored_fair : (q : ℕ) (b : block.Block) (result : block.Result_of) → (result.stores ≡ true → 512 * b.sector + length b.payload ≤ 512 * disk.sectors) → Fair (512 * disk.sectors) done (executed_turn q b result)
+  stored_fair : (q : ℕ) (b : block.Block) (result : block.RequestResult) → (result.stores ≡ true → 512 * b.sector + length b.payload ≤ 512 * disk.sectors) → Fair (512 * disk.sectors) done (executed_turn q b result)
   stored_fair q b result h = by result.stores refl where
     by : (s : Bool) → result.stores ≡ s → Fair (512 * disk.sectors) done (executed_turn q b (record { status = result.status; bytes = result.bytes; stores = s }))
     by true e = record { legal = λ l. l; fits = (h e, tt) }
@@ -283,8 +283,8 @@ module _ (disk : block.Disk) (done : List Act) where
       let b : block.Block = block.block_of h.bytes h.writable in
       stored_fair q b (block.result_of disk b failed) (stores_inside disk b failed)
 
-  optional_fair : {X : Type 0} (turn : X → Turn Act) (o : Option X) → ((x : X) → Fair (512 * disk.sectors) done (turn x)) → Fair (512 * disk.sectors) done (option_map_or turn o (refused Noent))
-  optional_fair turn None h = quiet_fair (512 * disk.sectors) done (refused Noent) refl
+  optional_fair : {X : Type 0} (turn : X → Turn Act) (o : Option X) → ((x : X) → Fair (512 * disk.sectors) done (turn x)) → Fair (512 * disk.sectors) done (option_map_or turn o (refusal_turn Noent))
+  optional_fair turn None h = quiet_fair (512 * disk.sectors) done (refusal_turn Noent) refl
   optional_fair turn (Some y) h = h y
 
   execute_fair : (x : Setting) (made : Creation) (failed : Bool) (q : ℕ) → Fair (512 * disk.sectors) done (execute_turn x made disk failed done q)
@@ -301,14 +301,14 @@ room_of s = 512 * option_map_or (λ w. w.count) s.window 0
 module _ (x : Setting) (made : Creation) (name : List ℕ) (s : Seen) where
   dev_fair : (step : DevStep) → Fair (room_of s) s.acts (dev_turn x made s step)
   dev_fair (line.Node step) = node_fair (room_of s) s.acts x made step
-  dev_fair (line.Area step) = refuse_fair (room_of s) s.acts (given (not (is_open s.acts)) Badf) _ (lifted_fair (room_of s) s.acts _)
+  dev_fair (line.Area step) = refuse_fair (room_of s) s.acts (refusal_if (not (is_open s.acts)) Badf) _ (lifted_fair (room_of s) s.acts _)
   dev_fair (line.Bus step) = bus_fair (room_of s) s.acts made s.now step
   dev_fair (line.Driver step) = quiet_fair (room_of s) s.acts (dev_turn x made s (line.Driver step)) (search (refuse_quiet, drivers_quiet))
 
   queue_fair : (failed : Bool) (step : QueueStep) → Fair (room_of s) s.acts (queue_turn x made name s failed step)
   queue_fair failed (queue.Walk q head) = quiet_fair (room_of s) s.acts (queue_turn x made name s failed (queue.Walk q head)) (search (refuse_quiet, walk_quiet))
   queue_fair failed (queue.Fetch q) = quiet_fair (room_of s) s.acts (queue_turn x made name s failed (queue.Fetch q)) (search (refuse_quiet, fetch_quiet))
-  queue_fair failed (queue.Execute q) = refuse_fair (room_of s) s.acts (given (not (is_open s.acts)) Badf) _ (execute_fair (disk_of made name s) s.acts x made failed q)
+  queue_fair failed (queue.Execute q) = refuse_fair (room_of s) s.acts (refusal_if (not (is_open s.acts)) Badf) _ (execute_fair (disk_of made name s) s.acts x made failed q)
   queue_fair failed (queue.Finish q) = quiet_fair (room_of s) s.acts (queue_turn x made name s failed (queue.Finish q)) (search (refuse_quiet, finish_quiet))
   queue_fair failed (queue.Ring q size) = quiet_fair (room_of s) s.acts (queue_turn x made name s failed (queue.Ring q size)) (search (refuse_quiet, ring_quiet))
   queue_fair failed (queue.Unring q) = quiet_fair (room_of s) s.acts (queue_turn x made name s failed (queue.Unring q)) (search (refuse_quiet, unring_quiet))
@@ -319,12 +319,12 @@ module _ (x : Setting) (made : Creation) (name : List ℕ) (s : Seen) where
 
 pub device_fair : (x : Setting) (s : Seen) (step : DevStep) → Fair (room_of s) s.acts (device_turn x s step)
 device_fair x s step = by s.made where
-  by : (o : Option Creation) → Fair (room_of s) s.acts (option_map_or (λ made. dev_turn x made s step) o (refused Nodev))
-  by None = quiet_fair (room_of s) s.acts (refused Nodev) refl
+  by : (o : Option Creation) → Fair (room_of s) s.acts (option_map_or (λ made. dev_turn x made s step) o (refusal_turn Nodev))
+  by None = quiet_fair (room_of s) s.acts (refusal_turn Nodev) refl
   by (Some made) = dev_fair x made [] s step
 
 pub device_queue_fair : (x : Setting) (name : List ℕ) (s : Seen) (failed : Bool) (step : QueueStep) → Fair (room_of s) s.acts (device_queue_turn x name s failed step)
 device_queue_fair x name s failed step = by s.made where
-  by : (o : Option Creation) → Fair (room_of s) s.acts (option_map_or (λ made. queue_turn x made name s failed step) o (refused Nodev))
-  by None = quiet_fair (room_of s) s.acts (refused Nodev) refl
+  by : (o : Option Creation) → Fair (room_of s) s.acts (option_map_or (λ made. queue_turn x made name s failed step) o (refusal_turn Nodev))
+  by None = quiet_fair (room_of s) s.acts (refusal_turn Nodev) refl
   by (Some made) = queue_fair x made name s failed step

@@ -12,37 +12,37 @@ use Rattle.vd_model.specs.Acts.{Act, Bus, State, Node, Attached, Opened, message
 use Rattle.vd_model.specs.State.{Max_set}
 use Rattle.vd_model.specs.Raw.{control_step}
 use Rattle.vd_model.specs.Turn.{Turn}
-use Rattle.vd_model.specs.Deeds.{Deed, Made, On, own, clock, seen}
+use Rattle.vd_model.specs.Deeds.{Deed, Made, On, acts_of_device, clock, device_view}
 use Rattle.vd_model.specs.ControlTurns.{plain_creation, control_outcome}
 use Rattle.vd_model.specs.History.{History, deeds_of, outcome, device_turn, device_queue_turn}
-use Rattle.vd_laws.specs.MessageLaw.{heard, after}
-use Rattle.vd_laws.proofs.Kept.{name_is, is_itself, granted, raw_granted, control_granted, if_done_either, control_does}
+use Rattle.vd_laws.specs.MessageLaw.{message_acts_of, with_step}
+use Rattle.vd_laws.proofs.IsolationLaw.{name_is, is_itself, granted, raw_granted, control_granted, if_done_either, control_does}
 use Rattle.vd_laws.proofs.Heard.{Legal, device_fair, device_queue_fair}
 
-pub own_same : (d : List ℕ) (acts : List Act) (done : List Deed) → own d (map (On d) acts ++ done) ≡ acts ++ own d done
-own_same d [] done = refl
-own_same d (act ∷ acts) done =
-    ap (λ b. cond b (act ∷ own d (map (On d) acts ++ done)) (own d (map (On d) acts ++ done))) (is_itself d) ∙ ap (λ l. act ∷ l) (own_same d acts done)
+pub acts_of_device_same : (d : List ℕ) (acts : List Act) (done : List Deed) → acts_of_device d (map (On d) acts ++ done) ≡ acts ++ acts_of_device d done
+acts_of_device_same d [] done = refl
+acts_of_device_same d (act ∷ acts) done =
+    ap (λ b. cond b (act ∷ acts_of_device d (map (On d) acts ++ done)) (acts_of_device d (map (On d) acts ++ done))) (is_itself d) ∙ ap (λ l. act ∷ l) (acts_of_device_same d acts done)
 
-pub own_other : (d name : List ℕ) (acts : List Act) (done : List Deed) → bytes_eq d name ≡ false → own d (map (On name) acts ++ done) ≡ own d done
-own_other d name [] done h = refl
-own_other d name (act ∷ acts) done h =
-    ap (λ b. cond b (act ∷ own d (map (On name) acts ++ done)) (own d (map (On name) acts ++ done))) h ∙ own_other d name acts done h
+pub acts_of_device_other : (d name : List ℕ) (acts : List Act) (done : List Deed) → bytes_eq d name ≡ false → acts_of_device d (map (On name) acts ++ done) ≡ acts_of_device d done
+acts_of_device_other d name [] done h = refl
+acts_of_device_other d name (act ∷ acts) done h =
+    ap (λ b. cond b (act ∷ acts_of_device d (map (On name) acts ++ done)) (acts_of_device d (map (On name) acts ++ done))) h ∙ acts_of_device_other d name acts done h
 
 -- the acts on each device's messages are legal
 abbrev AllLegal : List Deed → Type 0
-AllLegal done = (d : List ℕ) → Legal (message_acts (own d done))
+AllLegal done = (d : List ℕ) → Legal (message_acts (acts_of_device d done))
 
 -- a line on one device
-turn_legal : (name : List ℕ) (turn : Turn Act) (done : List Deed) → (Legal (message_acts (own name done)) → Legal (message_acts (turn.acts ++ own name done))) → AllLegal done → AllLegal (map (On name) turn.acts ++ done)
+turn_legal : (name : List ℕ) (turn : Turn Act) (done : List Deed) → (Legal (message_acts (acts_of_device name done)) → Legal (message_acts (turn.acts ++ acts_of_device name done))) → AllLegal done → AllLegal (map (On name) turn.acts ++ done)
 turn_legal name turn done fair l d = by (bytes_eq d name) refl where
-  by : (b : Bool) → bytes_eq d name ≡ b → Legal (message_acts (own d (map (On name) turn.acts ++ done)))
-  by true e = subst (λ n. Legal (message_acts (own n (map (On name) turn.acts ++ done)))) (sym (name_is d name e))
-      (subst (λ a. Legal (message_acts a)) (sym (own_same name turn.acts done)) (fair (l name)))
-  by false e = subst (λ a. Legal (message_acts a)) (sym (own_other d name turn.acts done e)) (l d)
+  by : (b : Bool) → bytes_eq d name ≡ b → Legal (message_acts (acts_of_device d (map (On name) turn.acts ++ done)))
+  by true e = subst (λ n. Legal (message_acts (acts_of_device n (map (On name) turn.acts ++ done)))) (sym (name_is d name e))
+      (subst (λ a. Legal (message_acts a)) (sym (acts_of_device_same name turn.acts done)) (fair (l name)))
+  by false e = subst (λ a. Legal (message_acts a)) (sym (acts_of_device_other d name turn.acts done e)) (l d)
 
 -- a control line
-made_legal : (d : List ℕ) (done : List Deed) (b : Bool) → Legal (message_acts (own d done)) → Legal (message_acts (cond b [] (own d done)))
+made_legal : (d : List ℕ) (done : List Deed) (b : Bool) → Legal (message_acts (acts_of_device d done)) → Legal (message_acts (cond b [] (acts_of_device d done)))
 made_legal d done true l = tt
 made_legal d done false l = l
 
@@ -81,19 +81,19 @@ control_legal x step done l =
 
 pub step_legal : (x : Setting) (done : List Deed) (step : Step) (failed : Bool) → AllLegal done → AllLegal ((outcome x done step failed).deeds ++ done)
 step_legal x done (Control step) failed l = control_legal x step done l
-step_legal x done (Device name step) failed l = turn_legal name (device_turn x (seen x name done) step) done (device_fair x (seen x name done) step).legal l
-step_legal x done (Queue name step) failed l = turn_legal name (device_queue_turn x name (seen x name done) failed step) done (device_queue_fair x name (seen x name done) failed step).legal l
+step_legal x done (Device name step) failed l = turn_legal name (device_turn x (device_view x name done) step) done (device_fair x (device_view x name done) step).legal l
+step_legal x done (Queue name step) failed l = turn_legal name (device_queue_turn x name (device_view x name done) failed step) done (device_queue_fair x name (device_view x name done) failed step).legal l
 
 all_legal : (x : Setting) (h : History) → AllLegal (deeds_of x h)
 unfolding deeds_of
 all_legal x [] = λ d. tt
 all_legal x (entry ∷ before) = step_legal x (deeds_of x before) entry.step entry.failed (all_legal x before)
 
-pub history_legal : (x : Setting) (h : History) (d : List ℕ) → Legal (heard x h d)
+pub history_legal : (x : Setting) (h : History) (d : List ℕ) → Legal (message_acts_of x h d)
 history_legal x h d = all_legal x h d
 
 -- what a line on a device adds to what is heard
 pub step_heard : (x : Setting) (h : History) (d : List ℕ) (step : DevStep) (failed : Bool)
-    → heard x (after h (Device d step) failed) d ≡ message_acts ((device_turn x (seen x d (deeds_of x h)) step).acts ++ own d (deeds_of x h))
+    → message_acts_of x (with_step h (Device d step) failed) d ≡ message_acts ((device_turn x (device_view x d (deeds_of x h)) step).acts ++ acts_of_device d (deeds_of x h))
 unfolding deeds_of
-step_heard x h d step failed = ap message_acts (own_same d (device_turn x (seen x d (deeds_of x h)) step).acts (deeds_of x h))
+step_heard x h d step failed = ap message_acts (acts_of_device_same d (device_turn x (device_view x d (deeds_of x h)) step).acts (deeds_of x h))

@@ -1,6 +1,6 @@
 -- The instances compute.
 use Rattle.std.proofs.Common.{refl}
-use Rattle.vd_model.specs.Agree.{part}
+use Rattle.vd_model.specs.Agree.{device_entries}
 use Rattle.vd_model.specs.History.{deeds_of}
 use Rattle.vd_laws.specs.ImageInstances.{ImageInstances}
 use Rattle.vd_laws.specs.IsolationInstances.{IsolationInstances}
@@ -11,7 +11,7 @@ unfolding deeds_of
 messages_met = record { held = refl; requeued = refl; comes_again = refl; answered = refl; answered_twice = refl; replied = refl; late = refl }
 
 pub isolation_met : IsolationInstances
-unfolding deeds_of part
+unfolding deeds_of device_entries
 isolation_met = record {
   agree = refl;
   differ = λ e. cc;

@@ -3,10 +3,10 @@ use Rattle.std.proofs.Common.{◌≡◌, ℕ, ◌+◌, ◌*◌, ◌<◌, ◌≤�
 use Rattle.vd_num.specs.Number.{pages_of, is_within}
 use Rattle.vd_model.specs.declared.queue.RingPlace.{RingPlace}
 use Rattle.vd_model.specs.Setting.{Setting, bounce_size}
-use Rattle.vd_model.specs.Acts.{Act, Node, Driver, Queue, Streaming, Request, Added, Area_made, Registered, Mapped, Unmapped, Synced_device, Synced_cpu, Region_made, Driver_put, Ring_made, Chain_added}
-use Rattle.vd_model.specs.Live.{buffers, maps, live, registered}
+use Rattle.vd_model.specs.Acts.{Act, Node, Driver, Queue, Streaming, Request, AddedChain, Area_made, Registered, Mapped, Unmapped, Synced_device, Synced_cpu, Region_made, Driver_put, Ring_made, Chain_added}
+use Rattle.vd_model.specs.Live.{buffers, maps, live_mappings, registration_of}
 use Rattle.vd_model.specs.Puts.{is_to_device, is_from_device}
-use Rattle.vd_model.specs.Queues.{out}
+use Rattle.vd_model.specs.Queues.{chains_out}
 use Rattle.vd_laws.specs.Among.{Among}
 use Rattle.vd_laws.specs.Runs.{IsAddressed}
 
@@ -19,7 +19,7 @@ pub record IsFresh (x : Setting) (acts : List Act) (m : Streaming) : Type 0 wher
   pub number : m.number ≡ maps acts
   pub buffer : m.want.buffer < buffers acts
   pub fits : m.slot + pages_of m.want.len ≤ x.bounce
-  pub apart : (l : Streaming) → Among l (live acts) → (slot : ℕ) → covers m slot ≡ true → covers l slot ≡ true → ⊥
+  pub apart : (l : Streaming) → Among l (live_mappings acts) → (slot : ℕ) → covers m slot ≡ true → covers l slot ≡ true → ⊥
 
 -- a ring whose parts lie past the bounce memory, and the part of the driver in the device's memory
 pub record IsHigh (x : Setting) (place : RingPlace) : Type 0 where
@@ -38,20 +38,20 @@ Distinct [] = Unit {0}
 Distinct (n ∷ ns) = (Among n ns → ⊥) × Distinct ns
 
 -- a chain whose request has mappings of its own
-pub record IsNewChain (acts : List Act) (q : ℕ) (chain : Added) : Type 0 where
+pub record IsNewChain (acts : List Act) (q : ℕ) (chain : AddedChain) : Type 0 where
   pub distinct : Distinct (maps_of chain.request)
   pub made : (n : ℕ) → Among n (maps_of chain.request) → n < maps acts
-  pub apart : (c : Added) → Among c (out acts q) → (n : ℕ) → Among n (maps_of c.request) → Among n (maps_of chain.request) → ⊥
+  pub apart : (c : AddedChain) → Among c (chains_out acts q) → (n : ℕ) → Among n (maps_of c.request) → Among n (maps_of chain.request) → ⊥
 
 abbrev pub Admits : Setting → List Act → Act → Type 0
 Admits x acts (Driver (Mapped m)) = IsFresh x acts m
-Admits x acts (Driver (Unmapped m)) = Among m (live acts)
-Admits x acts (Driver (Synced_device m)) = Among m (live acts) × (is_to_device m.want.dir ≡ true)
-Admits x acts (Driver (Synced_cpu m)) = Among m (live acts) × (is_from_device m.want.dir ≡ true)
+Admits x acts (Driver (Unmapped m)) = Among m (live_mappings acts)
+Admits x acts (Driver (Synced_device m)) = Among m (live_mappings acts) × (is_to_device m.want.dir ≡ true)
+Admits x acts (Driver (Synced_cpu m)) = Among m (live_mappings acts) × (is_from_device m.want.dir ≡ true)
 Admits x acts (Driver (Region_made r)) = x.bounce ≤ r.slot
 Admits x acts (Driver (Driver_put at bytes)) = IsAddressed x → bounce_size x ≤ at
-Admits x acts (Node (Area_made len)) = registered acts ≡ None
-Admits x acts (Node (Registered base size)) = (registered acts ≡ None) × (size ≡ bounce_size x) × (0 < x.per_page)
+Admits x acts (Node (Area_made len)) = registration_of acts ≡ None
+Admits x acts (Node (Registered base size)) = (registration_of acts ≡ None) × (size ≡ bounce_size x) × (0 < x.per_page)
 Admits x acts (Queue (Ring_made q place region)) = IsHigh x place
 Admits x acts (Queue (Chain_added q chain)) = IsNewChain acts q chain
 Admits x acts _ = Unit {0}

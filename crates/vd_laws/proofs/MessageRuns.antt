@@ -6,30 +6,30 @@ use Rattle.std.proofs.lemmas.Bool.Decides.{nat_tests}
 use Rattle.vd_model.specs.declared.message.Message.{Message}
 use Rattle.vd_model.specs.declared.message.TakeAnswer.{TakeAnswer}
 use Rattle.vd_model.specs.declared.message.TakeAnswer.TheVariants as end
-use Rattle.vd_model.specs.Messages.{MessageAct, Sent, Received, Answered, Lost, Timed, Took, Elapsed, next_id, outstanding, outstanding_as, is_other, is_held, is_received, is_due, deadline_of, least, least_due, breaks, next, told, replied, timed_out, answers_to}
+use Rattle.vd_model.specs.Messages.{MessageAct, Sent, Received, Answered, Lost, Timed, Took, Elapsed, next_id, outstanding, outstanding_as, is_other_message, is_held, is_received, is_due, deadline_of, least, least_due, breaks, next_message, message_told, reply_answer, timeout_answer, answers_to}
 use Rattle.vd_model.specs.BusTurns.{device_start}
 use Rattle.vd_laws.specs.Among.{Among}
-use Rattle.vd_laws.specs.MessageLaw.{Ascend, IsNext, Accepted, Broken}
+use Rattle.vd_laws.specs.MessageLaw.{AreAscending, IsNext, IsAccepted, IsBroken}
 use Rattle.vd_laws.proofs.Lists.{pushed, filtered}
 use Rattle.vd_laws.proofs.Searches.{missed, finds, found_there}
 use Rattle.vd_laws.proofs.Heard.{Legal}
 
 -- ---- ascending ids
 
-push_ascends : (ms : List Message) (m : Message) → Ascend ms → ((k : Message) → Among k ms → k.id < m.id) → Ascend (ms ++ m ∷ [])
+push_ascends : (ms : List Message) (m : Message) → AreAscending ms → ((k : Message) → Among k ms → k.id < m.id) → AreAscending (ms ++ m ∷ [])
 push_ascends [] m a below = (λ k h. absurd h, tt)
 push_ascends (n ∷ ms) m a below =
     (λ k h. elim (pushed k m ms h) [ inl j ↦ a.0 k j | inr e ↦ subst (λ l. n.id < l.id) (sym e) (below n (inl refl)) ], push_ascends ms m a.1 (λ k h. below k (inr h)))
 
-filter_ascends : (p : Message → Bool) (ms : List Message) → Ascend ms → Ascend (filter p ms)
+filter_ascends : (p : Message → Bool) (ms : List Message) → AreAscending ms → AreAscending (filter p ms)
 filter_ascends p [] a = tt
 filter_ascends p (m ∷ ms) a = by (p m) (filter_ascends p ms a.1) where
-  by : (b : Bool) → Ascend (filter p ms) → Ascend (cond b (m ∷ filter p ms) (filter p ms))
+  by : (b : Bool) → AreAscending (filter p ms) → AreAscending (cond b (m ∷ filter p ms) (filter p ms))
   by true rest = (λ k h. a.0 k (filtered p k ms h).0, rest)
   by false rest = rest
 
 -- the first that passes is the least
-first_least : (p : Message → Bool) (ms : List Message) (n : Message) → Ascend ms → find p ms ≡ Some n → (m : Message) → Among m ms → p m ≡ true → n.id ≤ m.id
+first_least : (p : Message → Bool) (ms : List Message) (n : Message) → AreAscending ms → find p ms ≡ Some n → (m : Message) → Among m ms → p m ≡ true → n.id ≤ m.id
 first_least p [] n a e m h passes = absurd h
 first_least p (k ∷ ms) n a e m h passes = by (p k) refl e h (first_least p ms n a.1) where
   by : (b : Bool) → p k ≡ b → cond b (Some k) (find p ms) ≡ Some n → (m ≡ k) ⊎ Among m ms → (find p ms ≡ Some n → (m : Message) → Among m ms → p m ≡ true → n.id ≤ m.id) → n.id ≤ m.id
@@ -45,7 +45,7 @@ abbrev one_if : Bool → ℕ
 one_if b = cond b 1 0
 
 record IsHeard (acts : List MessageAct) : Type 0 where
-  ascends : Ascend (outstanding acts)
+  ascends : AreAscending (outstanding acts)
   below : (m : Message) → Among m (outstanding acts) → m.id < next_id device_start acts
   unsent : (id : ℕ) → next_id device_start acts ≤ id → answers_to id acts ≡ 0
   open_yet : (m : Message) → Among m (outstanding acts) → answers_to m.id acts ≡ 0
@@ -69,10 +69,10 @@ held_message acts id held = by (outstanding_as acts id) refl held where
 
 answered_heard : (id result avail : ℕ) (acts : List MessageAct) → is_held acts id ≡ true → IsHeard acts → IsHeard (Answered id result avail ∷ acts)
 answered_heard id result avail acts held h = record {
-  ascends = filter_ascends (is_other id) (outstanding acts) h.ascends;
-  below = λ m k. h.below m (filtered (is_other id) m (outstanding acts) k).0;
+  ascends = filter_ascends (is_other_message id) (outstanding acts) h.ascends;
+  below = λ m k. h.below m (filtered (is_other_message id) m (outstanding acts) k).0;
   unsent = λ i past. ap (λ n. n + answers_to i acts) (other i past) ∙ (let none = h.unsent i past in omega arith);
-  open_yet = λ m k. let p = filtered (is_other id) m (outstanding acts) k in let none = h.open_yet m p.0 in
+  open_yet = λ m k. let p = filtered (is_other_message id) m (outstanding acts) k in let none = h.open_yet m p.0 in
       ap (λ n. n + answers_to m.id acts) (apart id m.id (λ e. true≢false (sym (eq-eqb m.id id (sym e)) ∙ not-true (m.id == id) p.1))) ∙ (omega arith);
   once = λ i. few i (id == i) refl;
 } where
@@ -100,7 +100,7 @@ ticked_heard now acts h = record {
   open_yet = λ m k. h.open_yet m (fewer m (breaks now (outstanding acts)) k);
   once = h.once;
 } where
-  ascends : (b : Bool) → Ascend (if b then [] else outstanding acts)
+  ascends : (b : Bool) → AreAscending (if b then [] else outstanding acts)
   ascends true = tt
   ascends false = h.ascends
 
@@ -121,7 +121,7 @@ heard_is (Lost ∷ acts) legal = let h = heard_is acts legal.1 in record { ascen
 pub legal_once : (acts : List MessageAct) → Legal acts → (id : ℕ) → answers_to id acts ≤ 1
 legal_once acts legal id = (heard_is acts legal).once id
 
-pub legal_ascends : (acts : List MessageAct) → Legal acts → Ascend (outstanding acts)
+pub legal_ascends : (acts : List MessageAct) → Legal acts → AreAscending (outstanding acts)
 legal_ascends acts legal = (heard_is acts legal).ascends
 
 -- the end of legal acts is legal
@@ -135,8 +135,8 @@ suffix_legal (act ∷ later) acts legal = suffix_legal later acts legal.1
 pub held_is : (acts : List MessageAct) (m : Message) → Among m (outstanding acts) → is_held acts m.id ≡ is_received acts m.id
 held_is acts m there = ap (λ b. b && is_received acts m.id) (finds (λ k. k.id == m.id) m (outstanding acts) there (eq-eqb m.id m.id refl))
 
-pub next_is : (acts : List MessageAct) (m : Message) → Legal acts → next acts ≡ Some m → IsNext acts m
-next_is acts m legal e =
+pub next_message_is : (acts : List MessageAct) (m : Message) → Legal acts → next_message acts ≡ Some m → IsNext acts m
+next_message_is acts m legal e =
     let f = found_there (λ k. not (is_received acts k.id)) m (outstanding acts) e in
     record {
       waits = f.0;
@@ -144,22 +144,22 @@ next_is acts m legal e =
       least = λ k there unheld. first_least (λ k. not (is_received acts k.id)) (outstanding acts) m (legal_ascends acts legal) e k there (ap not (sym (held_is acts k there) ∙ unheld));
     }
 
-pub none_next : (acts : List MessageAct) → next acts ≡ None → (k : Message) → Among k (outstanding acts) → is_held acts k.id ≡ true
+pub none_next : (acts : List MessageAct) → next_message acts ≡ None → (k : Message) → Among k (outstanding acts) → is_held acts k.id ≡ true
 none_next acts e k there = held_is acts k there ∙ by (is_received acts k.id) (missed (λ k. not (is_received acts k.id)) k (outstanding acts) e there) where
   by : (b : Bool) → not b ≡ false → b ≡ true
   by true h = refl
   by false h = cc
 
 -- the next message is held once it is received
-pub next_held : (acts : List MessageAct) (m : Message) → next acts ≡ Some m → is_held (Received m.id ∷ acts) m.id ≡ true
-next_held acts m e =
+pub next_message_held : (acts : List MessageAct) (m : Message) → next_message acts ≡ Some m → is_held (Received m.id ∷ acts) m.id ≡ true
+next_message_held acts m e =
     let f = found_there (λ k. not (is_received acts k.id)) m (outstanding acts) e in
     held_is (Received m.id ∷ acts) m f.0 ∙ ap (λ b. b || is_received acts m.id) (eq-eqb m.id m.id refl)
 
 pub each_next : (acts later earlier : List MessageAct) (id : ℕ) → Legal acts → acts ≡ later ++ Received id ∷ earlier → (m : Message) × IsNext earlier m × (m.id ≡ id)
 each_next acts later earlier id legal split =
     let l : Legal (Received id ∷ earlier) = suffix_legal later (Received id ∷ earlier) (subst Legal split legal) in
-    (l.0.0, next_is earlier l.0.0 l.1 l.0.1, l.0.2)
+    (l.0.0, next_message_is earlier l.0.0 l.1 l.0.1, l.0.2)
 
 pub each_held : (acts later earlier : List MessageAct) (id result avail : ℕ) → Legal acts → acts ≡ later ++ Answered id result avail ∷ earlier → is_held earlier id ≡ true
 each_held acts later earlier id result avail legal split =
@@ -199,7 +199,7 @@ was_sent (Sent k ∷ acts) m h = elim (pushed m k (outstanding acts) h) [
   | inl j ↦ sent_earlier m (Sent k) acts (was_sent acts m j)
   | inr e ↦ (record { later = []; earlier = acts; split = ap (λ l. Sent l ∷ acts) (sym e) })
 ]
-was_sent (Answered id result avail ∷ acts) m h = sent_earlier m (Answered id result avail) acts (was_sent acts m (filtered (is_other id) m (outstanding acts) h).0)
+was_sent (Answered id result avail ∷ acts) m h = sent_earlier m (Answered id result avail) acts (was_sent acts m (filtered (is_other_message id) m (outstanding acts) h).0)
 was_sent (Elapsed now ∷ acts) m h = sent_earlier m (Elapsed now) acts (was_sent acts m (by (breaks now (outstanding acts)) h)) where
   by : (b : Bool) → Among m (if b then [] else outstanding acts) → Among m (outstanding acts)
   by true k = absurd k
@@ -273,7 +273,7 @@ least_due_is now (m ∷ ms) deadline e = by (is_due now m) refl (least_due now m
               least = λ k j due. elim j [ inl e ↦ (let eq : deadline_of k ≡ deadline_of m = ap deadline_of e in omega arith) | inr i ↦ (let l = r.least k i due in omega arith) ];
             }
 
-this_tick : (acts : List MessageAct) (id deadline now : ℕ) (m : Message) → outstanding_as acts id ≡ Some m → least_due now (outstanding acts) ≡ Some deadline → Broken (Elapsed now ∷ acts) id deadline now
+this_tick : (acts : List MessageAct) (id deadline now : ℕ) (m : Message) → outstanding_as acts id ≡ Some m → least_due now (outstanding acts) ≡ Some deadline → IsBroken (Elapsed now ∷ acts) id deadline now
 this_tick acts id deadline now m e f =
     let g = found_there (λ k. k.id == id) m (outstanding acts) e in
     let l = least_due_is now (outstanding acts) deadline f in
@@ -292,13 +292,13 @@ this_tick acts id deadline now m e f =
 
 -- what a take tells of an id is so
 abbrev pub Says : List MessageAct → ℕ → TakeAnswer → Type 0
-Says acts id (end.Done says avail) = Accepted acts id 0
-Says acts id (end.FailedByReply says result) = (result ≢ 0) × Accepted acts id result
-Says acts id (end.FailedByTimeout says deadline now) = Broken acts id deadline now
+Says acts id (end.Done says avail) = IsAccepted acts id 0
+Says acts id (end.FailedByReply says result) = (result ≢ 0) × IsAccepted acts id result
+Says acts id (end.FailedByTimeout says deadline now) = IsBroken acts id deadline now
 Says acts id _ = Unit {0}
 
 -- one more act behind
-accepted_later : (act : MessageAct) (acts : List MessageAct) (id result : ℕ) → Accepted acts id result → Accepted (act ∷ acts) id result
+accepted_later : (act : MessageAct) (acts : List MessageAct) (id result : ℕ) → IsAccepted acts id result → IsAccepted (act ∷ acts) id result
 accepted_later act acts id result a = record { later = act ∷ a.later; avail = a.avail; earlier = a.earlier; split = ap (λ l. act ∷ l) a.split }
 
 says_later : (act : MessageAct) (acts : List MessageAct) (id : ℕ) (t : TakeAnswer) → Says acts id t → Says (act ∷ acts) id t
@@ -319,36 +319,36 @@ says_later act acts id (end.FailedByTimeout says deadline now) h = record {
 }
 
 -- an accepted answer ends its message
-answer_says : (id result avail : ℕ) (acts : List MessageAct) (m : Message) → Says (Answered id result avail ∷ acts) id (replied m result avail)
+answer_says : (id result avail : ℕ) (acts : List MessageAct) (m : Message) → Says (Answered id result avail ∷ acts) id (reply_answer m result avail)
 answer_says id result avail acts m = by (result == 0) refl where
-  here : Accepted (Answered id result avail ∷ acts) id result
+  here : IsAccepted (Answered id result avail ∷ acts) id result
   here = record { later = []; avail = avail; earlier = acts; split = refl }
 
   by : (b : Bool) → (result == 0) ≡ b → Says (Answered id result avail ∷ acts) id (if b then end.Done m.body avail else end.FailedByReply m.body result)
-  by true e = subst (λ r. Accepted (Answered id result avail ∷ acts) id r) (eqb-true result 0 e) here
+  by true e = subst (λ r. IsAccepted (Answered id result avail ∷ acts) id r) (eqb-true result 0 e) here
   by false e = (eqb-false result 0 e, here)
 
-pub told_says : (acts : List MessageAct) (id : ℕ) → Says acts id (told acts id)
-told_says [] id = tt
-told_says (Sent m ∷ acts) id = by (m.id == id) (says_later (Sent m) acts id (told acts id) (told_says acts id)) where
-  by : (b : Bool) → Says (Sent m ∷ acts) id (told acts id) → Says (Sent m ∷ acts) id (if b then end.Pending else told acts id)
+pub message_told_says : (acts : List MessageAct) (id : ℕ) → Says acts id (message_told acts id)
+message_told_says [] id = tt
+message_told_says (Sent m ∷ acts) id = by (m.id == id) (says_later (Sent m) acts id (message_told acts id) (message_told_says acts id)) where
+  by : (b : Bool) → Says (Sent m ∷ acts) id (message_told acts id) → Says (Sent m ∷ acts) id (if b then end.Pending else message_told acts id)
   by true h = tt
   by false h = h
-told_says (Answered k result avail ∷ acts) id = by (k == id) refl (outstanding_as acts id) (says_later (Answered k result avail) acts id (told acts id) (told_says acts id)) where
-  by : (b : Bool) → (k == id) ≡ b → (o : Option Message) → Says (Answered k result avail ∷ acts) id (told acts id)
-      → Says (Answered k result avail ∷ acts) id (if b then option_map_or (λ m. replied m result avail) o (told acts id) else told acts id)
+message_told_says (Answered k result avail ∷ acts) id = by (k == id) refl (outstanding_as acts id) (says_later (Answered k result avail) acts id (message_told acts id) (message_told_says acts id)) where
+  by : (b : Bool) → (k == id) ≡ b → (o : Option Message) → Says (Answered k result avail ∷ acts) id (message_told acts id)
+      → Says (Answered k result avail ∷ acts) id (if b then option_map_or (λ m. reply_answer m result avail) o (message_told acts id) else message_told acts id)
   by true e None h = h
-  by true e (Some m) h = subst (λ i. Says (Answered k result avail ∷ acts) i (replied m result avail)) (eqb-true k id e) (answer_says k result avail acts m)
+  by true e (Some m) h = subst (λ i. Says (Answered k result avail ∷ acts) i (reply_answer m result avail)) (eqb-true k id e) (answer_says k result avail acts m)
   by false e o h = h
-told_says (Elapsed now ∷ acts) id = by (least_due now (outstanding acts)) refl (outstanding_as acts id) refl (says_later (Elapsed now) acts id (told acts id) (told_says acts id)) where
-  by : (o : Option ℕ) → least_due now (outstanding acts) ≡ o → (m : Option Message) → outstanding_as acts id ≡ m → Says (Elapsed now ∷ acts) id (told acts id) → Says (Elapsed now ∷ acts) id (timed_out o m now (told acts id))
+message_told_says (Elapsed now ∷ acts) id = by (least_due now (outstanding acts)) refl (outstanding_as acts id) refl (says_later (Elapsed now) acts id (message_told acts id) (message_told_says acts id)) where
+  by : (o : Option ℕ) → least_due now (outstanding acts) ≡ o → (m : Option Message) → outstanding_as acts id ≡ m → Says (Elapsed now ∷ acts) id (message_told acts id) → Says (Elapsed now ∷ acts) id (timeout_answer o m now (message_told acts id))
   by (Some deadline) e (Some m) f h = this_tick acts id deadline now m f e
   by (Some deadline) e None f h = h
   by None e m f h = h
-told_says (Took k ∷ acts) id = by (k == id) (says_later (Took k) acts id (told acts id) (told_says acts id)) where
-  by : (b : Bool) → Says (Took k ∷ acts) id (told acts id) → Says (Took k ∷ acts) id (if b then end.Unknown else told acts id)
+message_told_says (Took k ∷ acts) id = by (k == id) (says_later (Took k) acts id (message_told acts id) (message_told_says acts id)) where
+  by : (b : Bool) → Says (Took k ∷ acts) id (message_told acts id) → Says (Took k ∷ acts) id (if b then end.Unknown else message_told acts id)
   by true h = tt
   by false h = h
-told_says (Timed seconds ∷ acts) id = says_later (Timed seconds) acts id (told acts id) (told_says acts id)
-told_says (Received k ∷ acts) id = says_later (Received k) acts id (told acts id) (told_says acts id)
-told_says (Lost ∷ acts) id = says_later Lost acts id (told acts id) (told_says acts id)
+message_told_says (Timed seconds ∷ acts) id = says_later (Timed seconds) acts id (message_told acts id) (message_told_says acts id)
+message_told_says (Received k ∷ acts) id = says_later (Received k) acts id (message_told acts id) (message_told_says acts id)
+message_told_says (Lost ∷ acts) id = says_later Lost acts id (message_told acts id) (message_told_says acts id)

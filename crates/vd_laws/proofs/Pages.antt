@@ -5,7 +5,7 @@ use Rattle.std.proofs.lemmas.Nat.{le-div}
 use Rattle.std.proofs.Math.Nat.{mul-div-le, lt-div-mul-add, mul_assoc, mul_comm, mul_left_comm, mul-le-mul_left}
 use Rattle.vd_num.specs.Number.{pages_of}
 use Rattle.vd_model.specs.Acts.{Act, Node, Driver, Streaming, Mapped, Unmapped, Registered, Deregistered}
-use Rattle.vd_model.specs.Live.{live, iova_of, maps_address, page_of, meets_page, is_present}
+use Rattle.vd_model.specs.Live.{live_mappings, iova_of, maps_address, page_of, meets_page, is_present}
 use Rattle.vd_laws.specs.Among.{Among}
 use Rattle.vd_laws.proofs.Lists.{pushed, filtered, any_true}
 use Rattle.vd_laws.proofs.Legal.{covers}
@@ -76,13 +76,13 @@ or_true true = refl
 or_true false = refl
 
 -- the pages of a live mapping are present
-pub live_present : (g : ℕ) (acts : List Act) (m : Streaming) (page : ℕ) → Among m (live acts) → meets_page g page m ≡ true → is_present g acts page ≡ true
-live_present g [] m page there c = absurd there
-live_present g (Driver (Mapped n) ∷ acts) m page there c = by (pushed m n (live acts) there) (λ k. live_present g acts m page k c) where
-  by : Among m (live acts) ⊎ (m ≡ n) → (Among m (live acts) → is_present g acts page ≡ true) → (meets_page g page n || is_present g acts page) ≡ true
+pub live_mappings_present : (g : ℕ) (acts : List Act) (m : Streaming) (page : ℕ) → Among m (live_mappings acts) → meets_page g page m ≡ true → is_present g acts page ≡ true
+live_mappings_present g [] m page there c = absurd there
+live_mappings_present g (Driver (Mapped n) ∷ acts) m page there c = by (pushed m n (live_mappings acts) there) (λ k. live_mappings_present g acts m page k c) where
+  by : Among m (live_mappings acts) ⊎ (m ≡ n) → (Among m (live_mappings acts) → is_present g acts page ≡ true) → (meets_page g page n || is_present g acts page) ≡ true
   by (inl k) later = ap (λ b. meets_page g page n || b) (later k) ∙ or_true (meets_page g page n)
   by (inr e) later = ap (λ l. meets_page g page l || is_present g acts page) (sym e) ∙ ap (λ b. b || is_present g acts page) c
-live_present g (Driver (Unmapped n) ∷ acts) m page there c = live_present g acts m page (filtered (λ l. not (l.number == n.number)) m (live acts) there).0 c
-live_present g (Node (Registered base size) ∷ acts) m page there c = refl
-live_present g (Node Deregistered ∷ acts) m page there c = any_true (meets_page g page) m (live acts) there c
-live_present g (_ ∷ acts) m page there c = live_present g acts m page there c
+live_mappings_present g (Driver (Unmapped n) ∷ acts) m page there c = live_mappings_present g acts m page (filtered (λ l. not (l.number == n.number)) m (live_mappings acts) there).0 c
+live_mappings_present g (Node (Registered base size) ∷ acts) m page there c = refl
+live_mappings_present g (Node Deregistered ∷ acts) m page there c = any_true (meets_page g page) m (live_mappings acts) there c
+live_mappings_present g (_ ∷ acts) m page there c = live_mappings_present g acts m page there c

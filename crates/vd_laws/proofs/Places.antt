@@ -7,8 +7,8 @@ use Rattle.vd_num.specs.Number.{pages_of}
 use Rattle.vd_model.specs.declared.memory.Want.{Want}
 use Rattle.vd_model.specs.Setting.{Setting}
 use Rattle.vd_model.specs.Acts.{Act, Driver, Streaming, Buffer, Zeroed, Freed}
-use Rattle.vd_model.specs.Live.{buffers, maps, buffer_len, live}
-use Rattle.vd_model.specs.Place.{Slots, is_place, place_of, meets, mapping_slots, taken}
+use Rattle.vd_model.specs.Live.{buffers, maps, buffer_len, live_mappings}
+use Rattle.vd_model.specs.Place.{Slots, is_place, place_of, meets, mapping_slots, taken_slots}
 use Rattle.vd_laws.specs.Among.{Among}
 use Rattle.vd_laws.proofs.Lists.{any_false, greatest_is, among_map, among_left}
 use Rattle.vd_laws.proofs.Legal.{covers, IsFresh}
@@ -50,11 +50,11 @@ place_free held n lo hi slot e =
 apart : (m l : Streaming) (slot : ℕ) → meets m.slot (pages_of m.want.len) (mapping_slots l) ≡ false → covers m slot ≡ true → covers l slot ≡ true → ⊥
 apart m l slot free c d = grind (arith, nat_tests)
 
-pub taken_held : (acts : List Act) (l : Streaming) → Among l (live acts) → Among (mapping_slots l) (taken acts)
-taken_held acts l h = among_left (mapping_slots l) _ _ (among_map mapping_slots l (live acts) h)
+pub taken_slots_held : (acts : List Act) (l : Streaming) → Among l (live_mappings acts) → Among (mapping_slots l) (taken_slots acts)
+taken_slots_held acts l h = among_left (mapping_slots l) _ _ (among_map mapping_slots l (live_mappings acts) h)
 
 -- the mapping of a want at a place
-pub fresh : (x : Setting) (acts : List Act) (held : List Slots) → ((l : Streaming) → Among l (live acts) → Among (mapping_slots l) held)
+pub fresh : (x : Setting) (acts : List Act) (held : List Slots) → ((l : Streaming) → Among l (live_mappings acts) → Among (mapping_slots l) held)
     → (number : ℕ) → number ≡ maps acts → (want : Want) → want.buffer < buffers acts
     → (slot : ℕ) → place_of held (pages_of want.len) x.per_page x.bounce ≡ Some slot → IsFresh x acts (record { number = number; slot = slot; want = want })
 fresh x acts held all number is want made slot e =

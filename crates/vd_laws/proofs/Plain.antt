@@ -22,11 +22,11 @@ use Rattle.vd_model.specs.Setting.{Setting}
 use Rattle.vd_model.specs.Creation.{Creation}
 use Rattle.vd_model.specs.Acts.{Act, Driver, Node, Message_act, State, Queue, Closed, Area_made, Registered, Ring_made, Chain_added, message_acts}
 use Rattle.vd_model.specs.State.{Status_set, Kicks_taken, Cleared}
-use Rattle.vd_model.specs.Messages.{Took, Lost, Received, is_broken, told, next}
-use Rattle.vd_model.specs.Live.{Registration, registered}
-use Rattle.vd_model.specs.Turn.{Turn, refuse, refused}
-use Rattle.vd_model.specs.BusTurns.{done_with, asks_reset, taken, take_turn, send_turn, reset_turn, attached_turn, bus_turn}
-use Rattle.vd_model.specs.NodeTurns.{ended, received_as, response_turn, body_items, plain_turn}
+use Rattle.vd_model.specs.Messages.{Took, Lost, Received, is_broken, message_told, next_message}
+use Rattle.vd_model.specs.Live.{Registration, registration_of}
+use Rattle.vd_model.specs.Turn.{Turn, refuse, refusal_turn, done_with}
+use Rattle.vd_model.specs.BusTurns.{asks_reset, message_end_acts, take_turn, send_turn, reset_turn, attached_turn, bus_turn}
+use Rattle.vd_model.specs.NodeTurns.{registration_end, received_as, response_turn, body_items, plain_turn}
 use Rattle.vd_laws.proofs.Legal.{Admits, Legal}
 
 -- no law needs a premise of the act, and it isn't a driver's
@@ -71,8 +71,8 @@ plain_append (a ∷ first) more e f =
 
 -- ---- the bus
 
-taken_plain : (id : ℕ) (b : Body) (more : List Act) → list_all is_plain more ≡ true → list_all is_plain (taken id b more) ≡ true
-taken_plain id b more e = by (asks_reset b) where
+message_end_acts_plain : (id : ℕ) (b : Body) (more : List Act) → list_all is_plain more ≡ true → list_all is_plain (message_end_acts id b more) ≡ true
+message_end_acts_plain id b more e = by (asks_reset b) where
   by : (c : Bool) → list_all is_plain ((if c then State Cleared ∷ [] else more) ++ Message_act (Took id) ∷ []) ≡ true
   by true = refl
   by false = plain_append more (Message_act (Took id) ∷ []) e refl
@@ -80,11 +80,11 @@ taken_plain id b more e = by (asks_reset b) where
 take_plain : (id : ℕ) (t : TakeAnswer) → IsPlain (take_turn id t)
 take_plain id end.Pending = refl
 take_plain id end.Unknown = refl
-take_plain id (end.Done (body.Status value) avail) = taken_plain id (body.Status value) (State (Status_set value) ∷ []) refl
+take_plain id (end.Done (body.Status value) avail) = message_end_acts_plain id (body.Status value) (State (Status_set value) ∷ []) refl
 take_plain id (end.Done (body.VqState index) avail) = refl
 take_plain id (end.Done (body.Iotlb range) avail) = refl
-take_plain id (end.FailedByReply b result) = taken_plain id b [] refl
-take_plain id (end.FailedByTimeout b deadline now) = taken_plain id b [] refl
+take_plain id (end.FailedByReply b result) = message_end_acts_plain id b [] refl
+take_plain id (end.FailedByTimeout b deadline now) = message_end_acts_plain id b [] refl
 
 reset_plain : (now : ℕ) (done : List Act) → IsPlain (reset_turn now done)
 reset_plain now done = by (is_broken (message_acts done)) where
@@ -110,24 +110,24 @@ attached_plain made now done (bus.Callback on flag) = search refuse_plain
 attached_plain made now done (bus.Irqs on) = search refuse_plain
 attached_plain made now done (bus.GetConfig offset len) = search refuse_plain
 attached_plain made now done (bus.Timeout seconds) = refl
-attached_plain made now done (bus.Take id) = take_plain id (told (message_acts done) id)
+attached_plain made now done (bus.Take id) = take_plain id (message_told (message_acts done) id)
 
 pub bus_plain : (made : Creation) (now : ℕ) (done : List Act) (step : BusStep) → IsPlain (bus_turn made now done step)
 bus_plain made now done step = search (refuse_plain, attached_plain)
 
 -- ---- the node
 
-close_plain : (o : Option Registration) → list_all is_plain (Message_act Lost ∷ Node Closed ∷ ended o) ≡ true
+close_plain : (o : Option Registration) → list_all is_plain (Message_act Lost ∷ Node Closed ∷ registration_end o) ≡ true
 close_plain None = refl
 close_plain (Some r) = refl
 
 received_plain : (items : Message → List Item) (done : List Act) → IsPlain (received_as items done)
-received_plain items done = by (next (message_acts done)) where
-  by : (o : Option Message) → IsPlain (option_map_or (λ m. done_with (items m) (Message_act (Received m.id) ∷ [])) o (refused Again))
+received_plain items done = by (next_message (message_acts done)) where
+  by : (o : Option Message) → IsPlain (option_map_or (λ m. done_with (items m) (Message_act (Received m.id) ∷ [])) o (refusal_turn Again))
   by None = refl
   by (Some m) = refl
 
-kicks_plain : (q : ℕ) (o : Option ℕ) → IsPlain (option_map_or (λ count. done_with (Number count ∷ []) (State (Kicks_taken q) ∷ [])) o (refused Noent))
+kicks_plain : (q : ℕ) (o : Option ℕ) → IsPlain (option_map_or (λ count. done_with (Number count ∷ []) (State (Kicks_taken q) ∷ [])) o (refusal_turn Noent))
 kicks_plain q None = refl
 kicks_plain q (Some count) = refl
 
@@ -137,7 +137,7 @@ response_plain done _ = refl
 
 pub node_plain : (made : Creation) (done : List Act) (step : NodeStep) → IsPlain (plain_turn made done step)
 node_plain made done node.Open = search refuse_plain
-node_plain made done node.Close = close_plain (registered done)
+node_plain made done node.Close = close_plain (registration_of done)
 node_plain made done node.Features = refl
 node_plain made done (node.SetConfig offset bytes) = search refuse_plain
 node_plain made done node.ConfigIrq = search refuse_plain

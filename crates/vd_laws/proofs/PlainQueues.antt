@@ -9,15 +9,15 @@ use Rattle.vd_model.specs.declared.parts.Chain.{Chain}
 use Rattle.vd_model.specs.declared.queue.RingPlace.{RingPlace}
 use Rattle.vd_model.specs.Setting.{Setting}
 use Rattle.vd_model.specs.Creation.{Creation}
-use Rattle.vd_model.specs.Acts.{Act, Node, Queue, Disk, Stored, Daemon_put, Fetched, Executed}
+use Rattle.vd_model.specs.Acts.{Act, Node, Queue, Disk_act, Stored, Daemon_put, Fetched, Executed}
 use Rattle.vd_model.specs.Memory.{Memory, read}
-use Rattle.vd_model.specs.Trace.{Ending, whole, faulty, missing, start_of, ending_of}
-use Rattle.vd_model.specs.Queues.{Executed_as}
+use Rattle.vd_model.specs.Trace.{Ending, whole, faulty, missing, trace_start, ending_of}
+use Rattle.vd_model.specs.Queues.{Execution}
 use Rattle.vd_model.specs.Rings.{number16, available_index_at, available_slot_at, available_event_at, used_element_at, used_index_at, next16}
-use Rattle.vd_model.specs.Turn.{Turn, refused}
+use Rattle.vd_model.specs.Turn.{Turn, refusal_turn}
 use Rattle.vd_model.specs.Raw.{little_bytes}
 use Rattle.vd_model.specs.Block as block
-use Rattle.vd_model.specs.DaemonTurns.{daemon_memory, has_indirect, has_event_idx, chain_or, read_or, walk_turn, readable_bytes, event_puts, event_or, fetched_turn, request_or, fetch_chain, fetch_at, ahead_or, fetch_from, fetch_turn, Hand, stored, executed_turn, execute_turn, unwritable_or, spread, deciding_field, finish_puts, finished_turn, finish_hand, finish_turn}
+use Rattle.vd_model.specs.DaemonTurns.{daemon_memory, has_indirect, has_event_idx, chain_or, read_or, walk_turn, readable_bytes, event_puts, event_or, fetched_turn, request_or, fetch_chain, fetch_at, ahead_or, fetch_from, fetch_turn, Hand, store_acts, executed_turn, execute_turn, unwritable_or, spread_acts, deciding_field, finish_puts, finished_turn, finish_hand, finish_turn}
 use Rattle.vd_laws.proofs.Plain.{is_plain, IsPlain, refuse_plain}
 
 read_plain : {X : Type 0} (r : Result X ℕ) (turn : X → Turn Act) → ((bytes : X) → IsPlain (turn bytes)) → IsPlain (read_or r turn)
@@ -29,7 +29,7 @@ chain_plain (whole chain) turn e = e chain
 chain_plain (faulty fault) turn e = refl
 chain_plain (missing at) turn e = refl
 
-there_plain : {X : Type 0} (f : X → Turn Act) (o : Option X) (errno : Errno) → ((y : X) → IsPlain (f y)) → IsPlain (option_map_or f o (refused errno))
+there_plain : {X : Type 0} (f : X → Turn Act) (o : Option X) (errno : Errno) → ((y : X) → IsPlain (f y)) → IsPlain (option_map_or f o (refusal_turn errno))
 there_plain f None errno e = refl
 there_plain f (Some y) errno e = e y
 
@@ -70,7 +70,7 @@ fetch_chain_plain x done q place position chain =
 fetch_at_plain : (x : Setting) (done : List Act) (q : ℕ) (place : RingPlace) (position : ℕ) → IsPlain (fetch_at x done q place position)
 fetch_at_plain x done q place position =
     read_plain (number16 (daemon_memory x done) (available_slot_at place position)) _
-    (λ head. chain_plain (ending_of (start_of place head (has_indirect done)) (daemon_memory x done)) _ (fetch_chain_plain x done q place position))
+    (λ head. chain_plain (ending_of (trace_start place head (has_indirect done)) (daemon_memory x done)) _ (fetch_chain_plain x done q place position))
 
 fetch_from_plain : (x : Setting) (done : List Act) (q : ℕ) (place : RingPlace) (position : ℕ) → IsPlain (fetch_from x done q place position)
 fetch_from_plain x done q place position =
@@ -82,14 +82,14 @@ fetch_plain x made done q = search (refuse_plain, read_plain, fetch_from_plain)
 
 -- ---- execute
 
-stored_plain : (b : block.Block) (result : block.Result_of) (more : List Act) → list_all is_plain more ≡ true → list_all is_plain (stored b result ++ more) ≡ true
-stored_plain b result more e = by result.stores where
-  by : (c : Bool) → list_all is_plain ((if c then Disk (Stored (512 * b.sector) b.payload) ∷ [] else []) ++ more) ≡ true
+store_acts_plain : (b : block.Block) (result : block.RequestResult) (more : List Act) → list_all is_plain more ≡ true → list_all is_plain (store_acts b result ++ more) ≡ true
+store_acts_plain b result more e = by result.stores where
+  by : (c : Bool) → list_all is_plain ((if c then Disk_act (Stored (512 * b.sector) b.payload) ∷ [] else []) ++ more) ≡ true
   by true = e
   by false = e
 
-executed_plain : (q : ℕ) (b : block.Block) (result : block.Result_of) → IsPlain (executed_turn q b result)
-executed_plain q b result = stored_plain b result (Queue (Executed q result.status result.bytes) ∷ []) refl
+executed_plain : (q : ℕ) (b : block.Block) (result : block.RequestResult) → IsPlain (executed_turn q b result)
+executed_plain q b result = store_acts_plain b result (Queue (Executed q result.status result.bytes) ∷ []) refl
 
 pub execute_plain : (x : Setting) (made : Creation) (disk : block.Disk) (failed : Bool) (done : List Act) (q : ℕ) → IsPlain (execute_turn x made disk failed done q)
 execute_plain x made disk failed done q = search (refuse_plain, there_plain, executed_plain)
@@ -103,22 +103,22 @@ unwritable_plain m (part ∷ parts) turn e = by part.writable (unwritable_plain 
   by true rest = read_plain (read m part.at part.len) (λ bytes. unwritable_or m parts turn) (λ bytes. rest)
   by false rest = rest
 
-spread_plain : (parts : List Part) (bytes : List ℕ) (acts : List Act) → list_all is_plain acts ≡ true → list_all is_plain (spread parts bytes acts) ≡ true
-spread_plain [] bytes acts e = e
-spread_plain (part ∷ parts) bytes acts e = by part.writable
-    (spread_plain parts (drop part.len bytes) (Node (Daemon_put part.at (take part.len bytes)) ∷ acts) e) (spread_plain parts bytes acts e) where
-      by : (b : Bool) → list_all is_plain (spread parts (drop part.len bytes) (Node (Daemon_put part.at (take part.len bytes)) ∷ acts)) ≡ true → list_all is_plain (spread parts bytes acts) ≡ true
-          → list_all is_plain (if b then spread parts (drop part.len bytes) (Node (Daemon_put part.at (take part.len bytes)) ∷ acts) else spread parts bytes acts) ≡ true
+spread_acts_plain : (parts : List Part) (bytes : List ℕ) (acts : List Act) → list_all is_plain acts ≡ true → list_all is_plain (spread_acts parts bytes acts) ≡ true
+spread_acts_plain [] bytes acts e = e
+spread_acts_plain (part ∷ parts) bytes acts e = by part.writable
+    (spread_acts_plain parts (drop part.len bytes) (Node (Daemon_put part.at (take part.len bytes)) ∷ acts) e) (spread_acts_plain parts bytes acts e) where
+      by : (b : Bool) → list_all is_plain (spread_acts parts (drop part.len bytes) (Node (Daemon_put part.at (take part.len bytes)) ∷ acts)) ≡ true → list_all is_plain (spread_acts parts bytes acts) ≡ true
+          → list_all is_plain (if b then spread_acts parts (drop part.len bytes) (Node (Daemon_put part.at (take part.len bytes)) ∷ acts) else spread_acts parts bytes acts) ≡ true
       by true there other = there
       by false there other = other
 
-finish_puts_plain : (place : RingPlace) (used : ℕ) (h : Hand) (end : Executed_as) → list_all is_plain (finish_puts place used h end) ≡ true
-finish_puts_plain place used h end = spread_plain h.parts (end.bytes ++ end.status ∷ []) [] refl
+finish_puts_plain : (place : RingPlace) (used : ℕ) (h : Hand) (end : Execution) → list_all is_plain (finish_puts place used h end) ≡ true
+finish_puts_plain place used h end = spread_acts_plain h.parts (end.bytes ++ end.status ∷ []) [] refl
 
 finished_plain : (x : Setting) (done : List Act) (q : ℕ) (place : RingPlace) (used : ℕ) (h : Hand) (puts : List Act) → list_all is_plain puts ≡ true → IsPlain (finished_turn x done q place used h puts)
 finished_plain x done q place used h puts e = read_plain (number16 (daemon_memory x (puts ++ done)) (deciding_field done place)) _ (λ field. e)
 
-finish_hand_plain : (x : Setting) (done : List Act) (q : ℕ) (place : RingPlace) (used : ℕ) (h : Hand) (end : Executed_as) → IsPlain (finish_hand x done q place used h end)
+finish_hand_plain : (x : Setting) (done : List Act) (q : ℕ) (place : RingPlace) (used : ℕ) (h : Hand) (end : Execution) → IsPlain (finish_hand x done q place used h end)
 finish_hand_plain x done q place used h end =
     unwritable_plain (daemon_memory x done) h.parts _
     (read_plain (read (daemon_memory x done) (used_element_at place used) 8) _ (λ element.

@@ -11,21 +11,21 @@ use Rattle.vd_model.specs.declared.parts.Chain.{Chain}
 use Rattle.vd_model.specs.declared.step.SubmitForm.{SubmitForm}
 use Rattle.vd_model.specs.Setting.{Setting}
 use Rattle.vd_model.specs.Creation.{Creation}
-use Rattle.vd_model.specs.Live.{live, live_regions}
+use Rattle.vd_model.specs.Live.{live_mappings, live_regions}
 use Rattle.vd_model.specs.Rings.{next16, number16, used_event_at, available_event_at}
 use Rattle.vd_model.specs.Raw.{little_bytes}
-use Rattle.vd_model.specs.Acts.{Act, NodeAct, DriverAct, Daemon_put, Driver_put, Mapped, Fetched, Unmapped, Region_freed, Streaming, Coherent, Added, Request, Node, Driver, Bus, Message_act, State, Queue, Disk, message_acts}
+use Rattle.vd_model.specs.Acts.{Act, NodeAct, DriverAct, Daemon_put, Driver_put, Mapped, Fetched, Unmapped, Region_freed, Streaming, Coherent, AddedChain, Request, Node, Driver, Bus, Message_act, State, Queue, Disk_act, message_acts}
 use Rattle.vd_model.specs.Memory.{Memory}
 use Rattle.vd_model.specs.Trace.{Ending, whole, faulty, missing}
 use Rattle.vd_model.specs.Turn.{Turn, refuse}
-use Rattle.vd_model.specs.Queues.{Ring, out, Executed_as}
+use Rattle.vd_model.specs.Queues.{Ring, chains_out, Execution}
 use Rattle.vd_model.specs.DaemonTurns as daemon
 use Rattle.vd_model.specs.RingTurns as ring
 
 -- no act on messages, and nothing stored
 abbrev pub is_quiet : Act → Bool
 is_quiet (Message_act act) = false
-is_quiet (Disk act) = false
+is_quiet (Disk_act act) = false
 is_quiet _ = true
 
 abbrev pub are_quiet : List Act → Bool
@@ -58,12 +58,12 @@ message_acts-append (Driver act ∷ xs) ys = message_acts-append xs ys
 message_acts-append (Bus act ∷ xs) ys = message_acts-append xs ys
 message_acts-append (State act ∷ xs) ys = message_acts-append xs ys
 message_acts-append (Queue act ∷ xs) ys = message_acts-append xs ys
-message_acts-append (Disk act ∷ xs) ys = message_acts-append xs ys
+message_acts-append (Disk_act act ∷ xs) ys = message_acts-append xs ys
 
 pub quiet_unheard : (acts : List Act) → are_quiet acts ≡ true → message_acts acts ≡ []
 quiet_unheard [] h = refl
 quiet_unheard (Message_act act ∷ acts) h = cc
-quiet_unheard (Disk act ∷ acts) h = cc
+quiet_unheard (Disk_act act ∷ acts) h = cc
 quiet_unheard (Node act ∷ acts) h = quiet_unheard acts h
 quiet_unheard (Driver act ∷ acts) h = quiet_unheard acts h
 quiet_unheard (Bus act ∷ acts) h = quiet_unheard acts h
@@ -131,19 +131,19 @@ unwritable_quiet : (m : Memory) (parts : List Part) (turn : Turn Act) → Quiet 
 unwritable_quiet m [] turn h = h
 unwritable_quiet m (part ∷ parts) turn h = search (if_quiet, read_quiet, unwritable_quiet m parts turn h)
 
-spread_quiet : (parts : List Part) (bytes : List ℕ) (acts : List Act) → are_quiet acts ≡ true → are_quiet (daemon.spread parts bytes acts) ≡ true
+spread_quiet : (parts : List Part) (bytes : List ℕ) (acts : List Act) → are_quiet acts ≡ true → are_quiet (daemon.spread_acts parts bytes acts) ≡ true
 spread_quiet [] bytes acts h = h
 spread_quiet (part ∷ parts) bytes acts h =
-    if_acts_quiet part.writable (daemon.spread parts (drop part.len bytes) (Node (Daemon_put part.at (take part.len bytes)) ∷ acts)) (daemon.spread parts bytes acts)
+    if_acts_quiet part.writable (daemon.spread_acts parts (drop part.len bytes) (Node (Daemon_put part.at (take part.len bytes)) ∷ acts)) (daemon.spread_acts parts bytes acts)
     (spread_quiet parts (drop part.len bytes) (Node (Daemon_put part.at (take part.len bytes)) ∷ acts) h) (spread_quiet parts bytes acts h)
 
-finish_puts_quiet : (place : RingPlace) (used : ℕ) (h : daemon.Hand) (end : Executed_as) → are_quiet (daemon.finish_puts place used h end) ≡ true
+finish_puts_quiet : (place : RingPlace) (used : ℕ) (h : daemon.Hand) (end : Execution) → are_quiet (daemon.finish_puts place used h end) ≡ true
 finish_puts_quiet place used h end = spread_quiet h.parts (end.bytes ++ end.status ∷ []) [] refl
 
 finished_quiet : (x : Setting) (done : List Act) (q : ℕ) (place : RingPlace) (used : ℕ) (h : daemon.Hand) (puts : List Act) → are_quiet puts ≡ true → Quiet (daemon.finished_turn x done q place used h puts)
 finished_quiet x done q place used h puts quiet = read_quiet (number16 (daemon.daemon_memory x (puts ++ done)) (daemon.deciding_field done place)) _ (λ field. quiet)
 
-finish_hand_quiet : (x : Setting) (done : List Act) (q : ℕ) (place : RingPlace) (used : ℕ) (h : daemon.Hand) (end : Executed_as) → Quiet (daemon.finish_hand x done q place used h end)
+finish_hand_quiet : (x : Setting) (done : List Act) (q : ℕ) (place : RingPlace) (used : ℕ) (h : daemon.Hand) (end : Execution) → Quiet (daemon.finish_hand x done q place used h end)
 finish_hand_quiet x done q place used h end =
     let last : Quiet (daemon.finished_turn x done q place used h (daemon.finish_puts place used h end)) = finished_quiet x done q place used h (daemon.finish_puts place used h end) (finish_puts_quiet place used h end) in
     search (unwritable_quiet, read_quiet, last)
@@ -163,35 +163,35 @@ unmapped_quiet : (o : Option Streaming) → are_quiet (option_map_or (λ m. Driv
 unmapped_quiet None = refl
 unmapped_quiet (Some m) = refl
 
-unmaps_quiet : (mappings : List Streaming) (numbers : List ℕ) → are_quiet (ring.unmaps mappings numbers) ≡ true
+unmaps_quiet : (mappings : List Streaming) (numbers : List ℕ) → are_quiet (ring.unmap_acts mappings numbers) ≡ true
 unmaps_quiet mappings [] = refl
 unmaps_quiet mappings (number ∷ numbers) =
-    append_quiet (ring.unmaps mappings numbers) (ring.unmapped mappings number) (unmaps_quiet mappings numbers) (unmapped_quiet (find (λ m. m.number == number) mappings))
+    append_quiet (ring.unmap_acts mappings numbers) (ring.unmap_act mappings number) (unmaps_quiet mappings numbers) (unmapped_quiet (find (λ m. m.number == number) mappings))
 
-frees_quiet : (buffer n : ℕ) → are_quiet (ring.frees buffer n) ≡ true
+frees_quiet : (buffer n : ℕ) → are_quiet (ring.free_acts buffer n) ≡ true
 frees_quiet buffer zero = refl
 frees_quiet buffer (suc n) = frees_quiet buffer n
 
-ended_quiet : (mappings : List Streaming) (r : Request) → are_quiet (ring.request_ended mappings r) ≡ true
-ended_quiet mappings r = append_quiet (ring.frees r.buffer r.buffers) (ring.unmaps mappings r.maps) (frees_quiet r.buffer r.buffers) (unmaps_quiet mappings r.maps)
+ended_quiet : (mappings : List Streaming) (r : Request) → are_quiet (ring.request_end_acts mappings r) ≡ true
+ended_quiet mappings r = append_quiet (ring.free_acts r.buffer r.buffers) (ring.unmap_acts mappings r.maps) (frees_quiet r.buffer r.buffers) (unmaps_quiet mappings r.maps)
 
-request_quiet : (mappings : List Streaming) (o : Option Request) → are_quiet (option_map_or (ring.request_ended mappings) o []) ≡ true
+request_quiet : (mappings : List Streaming) (o : Option Request) → are_quiet (option_map_or (ring.request_end_acts mappings) o []) ≡ true
 request_quiet mappings None = refl
 request_quiet mappings (Some r) = ended_quiet mappings r
 
-requests_quiet : (mappings : List Streaming) (chains : List Added) → are_quiet (ring.requests_ended mappings chains) ≡ true
+requests_quiet : (mappings : List Streaming) (chains : List AddedChain) → are_quiet (ring.requests_end_acts mappings chains) ≡ true
 requests_quiet mappings [] = refl
 requests_quiet mappings (chain ∷ chains) =
-    append_quiet (ring.requests_ended mappings chains) (option_map_or (ring.request_ended mappings) chain.request []) (requests_quiet mappings chains) (request_quiet mappings chain.request)
+    append_quiet (ring.requests_end_acts mappings chains) (option_map_or (ring.request_end_acts mappings) chain.request []) (requests_quiet mappings chains) (request_quiet mappings chain.request)
 
 freed_quiet : (o : Option Coherent) → are_quiet (option_map_or (λ r. Driver (Region_freed r) ∷ []) o []) ≡ true
 freed_quiet None = refl
 freed_quiet (Some r) = refl
 
-unring_acts_quiet : (done : List Act) (q : ℕ) (r : Ring) → are_quiet (ring.region_freed (live_regions done) r.region ++ ring.requests_ended (live done) (ring.by_head (out done q) r.place.size)) ≡ true
+unring_acts_quiet : (done : List Act) (q : ℕ) (r : Ring) → are_quiet (ring.region_end_acts (live_regions done) r.region ++ ring.requests_end_acts (live_mappings done) (ring.by_head (chains_out done q) r.place.size)) ≡ true
 unring_acts_quiet done q r =
-    append_quiet (ring.region_freed (live_regions done) r.region) (ring.requests_ended (live done) (ring.by_head (out done q) r.place.size))
-    (freed_quiet (find (λ c. c.number == r.region) (live_regions done))) (requests_quiet (live done) (ring.by_head (out done q) r.place.size))
+    append_quiet (ring.region_end_acts (live_regions done) r.region) (ring.requests_end_acts (live_mappings done) (ring.by_head (chains_out done q) r.place.size))
+    (freed_quiet (find (λ c. c.number == r.region) (live_regions done))) (requests_quiet (live_mappings done) (ring.by_head (chains_out done q) r.place.size))
 
 pub unring_quiet : (made : Creation) (done : List Act) (q : ℕ) → Quiet (ring.unring_turn made done q)
 unring_quiet made done q = search (on_ring_quiet, refuse_quiet, unring_acts_quiet)
@@ -212,7 +212,7 @@ maps_quiet : (ms : List Streaming) → are_quiet (ring.map_acts ms) ≡ true
 maps_quiet [] = refl
 maps_quiet (m ∷ ms) = append_quiet (ring.map_acts ms) (Driver (Mapped m) ∷ []) (maps_quiet ms) refl
 
-buffers_quiet : (indirect : Bool) (a : ring.Asked) (parts : List Part) → are_quiet (ring.buffer_acts indirect a parts) ≡ true
+buffers_quiet : (indirect : Bool) (a : ring.AskedRequest) (parts : List Part) → are_quiet (ring.buffer_acts indirect a parts) ≡ true
 buffers_quiet true a parts = refl
 buffers_quiet false a parts = refl
 
@@ -220,20 +220,20 @@ table_quiet : (r : RingPlace) (o : Option Streaming) (ds : List ℕ) → are_qui
 table_quiet r None ds = refl
 table_quiet r (Some m) ds = refl
 
-request_puts_quiet : (indirect : Bool) (r : RingPlace) (a : ring.Asked) (ms : List Streaming) (parts : List Part) (ds : List ℕ) → are_quiet (ring.request_puts indirect r a ms parts ds) ≡ true
+request_puts_quiet : (indirect : Bool) (r : RingPlace) (a : ring.AskedRequest) (ms : List Streaming) (parts : List Part) (ds : List ℕ) → are_quiet (ring.request_puts indirect r a ms parts ds) ≡ true
 request_puts_quiet true r a ms parts ds = table_quiet r (ring.last_after (ring.parts_count a) ms) ds
 request_puts_quiet false r a ms parts ds = descriptors_quiet r parts ds
 
-request_acts_quiet : (done : List Act) (q : ℕ) (r : Ring) (indirect : Bool) (a : ring.Asked) (ms : List Streaming) (parts : List Part) (ds : List ℕ) → are_quiet (ring.request_acts done q r indirect a ms parts ds) ≡ true
+request_acts_quiet : (done : List Act) (q : ℕ) (r : Ring) (indirect : Bool) (a : ring.AskedRequest) (ms : List Streaming) (parts : List Part) (ds : List ℕ) → are_quiet (ring.request_acts done q r indirect a ms parts ds) ≡ true
 request_acts_quiet done q r indirect a ms parts ds =
     append_quiet (ring.request_puts indirect r.place a ms parts ds ++ ring.map_acts ms) (ring.buffer_acts indirect a parts)
     (append_quiet (ring.request_puts indirect r.place a ms parts ds) (ring.map_acts ms) (request_puts_quiet indirect r.place a ms parts ds) (maps_quiet ms))
     (buffers_quiet indirect a parts)
 
-submitted_quiet : (x : Setting) (done : List Act) (q : ℕ) (r : Ring) (indirect : Bool) (a : ring.Asked) (ms : List Streaming) (ds : List ℕ) → Quiet (ring.submitted x done q r indirect a ms ds)
-submitted_quiet x done q r indirect a ms ds = request_acts_quiet done q r indirect a ms (map ring.part_of (take (ring.parts_count a) ms)) ds
+submitted_quiet : (x : Setting) (done : List Act) (q : ℕ) (r : Ring) (indirect : Bool) (a : ring.AskedRequest) (ms : List Streaming) (ds : List ℕ) → Quiet (ring.submitted_turn x done q r indirect a ms ds)
+submitted_quiet x done q r indirect a ms ds = request_acts_quiet done q r indirect a ms (map ring.mapping_part (take (ring.parts_count a) ms)) ds
 
-submit_asked_quiet : (x : Setting) (made : Creation) (done : List Act) (q : ℕ) (r : Ring) (indirect : Bool) (a : ring.Asked) → Quiet (ring.submit_asked x made done q r indirect a)
+submit_asked_quiet : (x : Setting) (made : Creation) (done : List Act) (q : ℕ) (r : Ring) (indirect : Bool) (a : ring.AskedRequest) → Quiet (ring.submit_asked x made done q r indirect a)
 submit_asked_quiet x made done q r indirect a = search (refuse_quiet, option_quiet, submitted_quiet)
 
 pub submit_quiet : (x : Setting) (made : Creation) (done : List Act) (q : ℕ) (asked : SubmitForm) → Quiet (ring.submit_turn x made done q asked)
@@ -245,16 +245,16 @@ used_event_quiet done r position = by (daemon.has_event_idx done) where
   by true = refl
   by false = refl
 
-completed_quiet : (x : Setting) (done acts : List Act) (chain : Added) (len : ℕ) → are_quiet acts ≡ true → Quiet (ring.completed x done acts chain len)
+completed_quiet : (x : Setting) (done acts : List Act) (chain : AddedChain) (len : ℕ) → are_quiet acts ≡ true → Quiet (ring.completed_turn x done acts chain len)
 completed_quiet x done acts chain len h = by chain.request where
-  by : (o : Option Request) → Quiet (ring.completed x done acts (record { head = chain.head; descriptors = chain.descriptors; request = o }) len)
+  by : (o : Option Request) → Quiet (ring.completed_turn x done acts (record { head = chain.head; descriptors = chain.descriptors; request = o }) len)
   by None = h
-  by (Some r) = append_quiet (ring.request_ended (live done) r) acts (ended_quiet (live done) r) h
+  by (Some r) = append_quiet (ring.request_end_acts (live_mappings done) r) acts (ended_quiet (live_mappings done) r) h
 
 reclaimed_quiet : (x : Setting) (done : List Act) (q : ℕ) (r : RingPlace) (id len : ℕ) → Quiet (ring.reclaimed_turn x done q r id len)
 reclaimed_quiet x done q r id len = search (option_quiet, completed_quiet, used_event_quiet)
 
-polled_quiet : (x : Setting) (done : List Act) (q : ℕ) (r : RingPlace) (used : ℕ) → Quiet (ring.polled x done q r used)
+polled_quiet : (x : Setting) (done : List Act) (q : ℕ) (r : RingPlace) (used : ℕ) → Quiet (ring.polled_turn x done q r used)
 polled_quiet x done q r used = search (refuse_quiet, if_quiet, reclaimed_quiet)
 
 pub poll_quiet : (x : Setting) (made : Creation) (done : List Act) (q : ℕ) → Quiet (ring.poll_turn x made done q)

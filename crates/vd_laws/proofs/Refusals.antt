@@ -4,7 +4,7 @@ use Rattle.std.specs.Option.{option_map_or}
 use Rattle.vd_num.specs.declared.errno.Errno.{Errno}
 use Rattle.vd_model.specs.Setting.{Setting}
 use Rattle.vd_model.specs.Acts.{Act}
-use Rattle.vd_model.specs.Turn.{Turn, refuse, refused, given}
+use Rattle.vd_model.specs.Turn.{Turn, refuse, refusal_turn, refusal_if}
 use Rattle.vd_laws.proofs.Legal.{Legal}
 
 -- a turn whose acts are legal after these
@@ -17,12 +17,12 @@ module _ {A : Type 0} (x : Setting) (as_act : A → Act) (done : List Act) (lega
   refuse_legal None turn h = h refl
   refuse_legal (Some errno) turn h = legal
 
-  pub or_refused : {B : Type 0} (f : B → Turn A) (o : Option B) (errno : Errno) → ((b : B) → o ≡ Some b → IsLegal x as_act done (f b)) → IsLegal x as_act done (option_map_or f o (refused errno))
+  pub or_refused : {B : Type 0} (f : B → Turn A) (o : Option B) (errno : Errno) → ((b : B) → o ≡ Some b → IsLegal x as_act done (f b)) → IsLegal x as_act done (option_map_or f o (refusal_turn errno))
   or_refused f None errno h = legal
   or_refused f (Some b) errno h = h b refl
 
 -- a test that didn't refuse
-pub not_given : (test : Bool) (errno : Errno) → given test errno ≡ None → test ≡ false
+pub not_given : (test : Bool) (errno : Errno) → refusal_if test errno ≡ None → test ≡ false
 not_given true errno e = cc
 not_given false errno e = refl
 
@@ -39,6 +39,6 @@ module _ (x : Setting) (done : List Act) (legal : Legal x done) where
   refuse_turn None turn h = h refl
   refuse_turn (Some errno) turn h = legal
 
-  pub there_turn : {B : Type 0} (f : B → Turn Act) (o : Option B) (errno : Errno) → ((b : B) → o ≡ Some b → IsLegalTurn x done (f b)) → IsLegalTurn x done (option_map_or f o (refused errno))
+  pub there_turn : {B : Type 0} (f : B → Turn Act) (o : Option B) (errno : Errno) → ((b : B) → o ≡ Some b → IsLegalTurn x done (f b)) → IsLegalTurn x done (option_map_or f o (refusal_turn errno))
   there_turn f None errno h = legal
   there_turn f (Some b) errno h = h b refl

@@ -8,12 +8,12 @@ use Rattle.vd_model.specs.declared.queue.RingPlace.{RingPlace}
 use Rattle.vd_model.specs.declared.parts.Part.{Part}
 use Rattle.vd_model.specs.Setting.{Setting, bounce_size}
 use Rattle.vd_model.specs.Acts.{Act, Driver, Streaming, Driver_put}
-use Rattle.vd_model.specs.Live.{maps, live}
-use Rattle.vd_model.specs.Queues.{out}
+use Rattle.vd_model.specs.Live.{maps, live_mappings}
+use Rattle.vd_model.specs.Queues.{chains_out}
 use Rattle.vd_model.specs.Rings.{ring_address, available_slot_at, available_index_at, used_event_at}
 use Rattle.vd_model.specs.DaemonTurns.{has_event_idx}
 use Rattle.vd_model.specs.Raw.{little_bytes}
-use Rattle.vd_model.specs.RingTurns.{ring_bytes, driver_offset, ring_at, is_ring_size, descriptor_puts, table_puts, last_after, used_event_puts, Asked, parts_count, request_puts}
+use Rattle.vd_model.specs.RingTurns.{ring_bytes, driver_offset, ring_at, is_ring_size, descriptor_puts, table_puts, last_after, used_event_puts, AskedRequest, parts_count, request_puts}
 use Rattle.vd_laws.specs.Runs.{IsAddressed}
 use Rattle.vd_laws.proofs.Legal.{IsHigh, Legal}
 
@@ -47,19 +47,19 @@ pub puts_maps : (x : Setting) (puts acts : List Act) → ArePuts x puts → maps
 puts_maps x [] acts p = refl
 puts_maps x (act ∷ puts) acts p = next_maps x act (puts ++ acts) p.0 ∙ puts_maps x puts acts p.1
 
-next_out : (x : Setting) (act : Act) (acts : List Act) (q : ℕ) → IsPut x act → out (act ∷ acts) q ≡ out acts q
+next_out : (x : Setting) (act : Act) (acts : List Act) (q : ℕ) → IsPut x act → chains_out (act ∷ acts) q ≡ chains_out acts q
 next_out x (Driver (Driver_put at bytes)) acts q p = refl
 next_out x _ acts q p = absurd p
 
-pub puts_out : (x : Setting) (puts acts : List Act) (q : ℕ) → ArePuts x puts → out (puts ++ acts) q ≡ out acts q
+pub puts_out : (x : Setting) (puts acts : List Act) (q : ℕ) → ArePuts x puts → chains_out (puts ++ acts) q ≡ chains_out acts q
 puts_out x [] acts q p = refl
 puts_out x (act ∷ puts) acts q p = next_out x act (puts ++ acts) q p.0 ∙ puts_out x puts acts q p.1
 
-next_live : (x : Setting) (act : Act) (acts : List Act) → IsPut x act → live (act ∷ acts) ≡ live acts
+next_live : (x : Setting) (act : Act) (acts : List Act) → IsPut x act → live_mappings (act ∷ acts) ≡ live_mappings acts
 next_live x (Driver (Driver_put at bytes)) acts p = refl
 next_live x _ acts p = absurd p
 
-pub puts_live : (x : Setting) (puts acts : List Act) → ArePuts x puts → live (puts ++ acts) ≡ live acts
+pub puts_live : (x : Setting) (puts acts : List Act) → ArePuts x puts → live_mappings (puts ++ acts) ≡ live_mappings acts
 puts_live x [] acts p = refl
 puts_live x (act ∷ puts) acts p = next_live x act (puts ++ acts) p.0 ∙ puts_live x puts acts p.1
 
@@ -118,7 +118,7 @@ module _ (x : Setting) (place : RingPlace) (high : IsHigh x place) where
   table_put None ds = tt
   table_put (Some m) ds = ((λ s. (let h = high.desc in omega arith)), tt)
 
-  pub request_put : (indirect : Bool) (a : Asked) (ms : List Streaming) (parts : List Part) (ds : List ℕ) → ArePuts x (request_puts indirect place a ms parts ds)
+  pub request_put : (indirect : Bool) (a : AskedRequest) (ms : List Streaming) (parts : List Part) (ds : List ℕ) → ArePuts x (request_puts indirect place a ms parts ds)
   request_put true a ms parts ds = table_put (last_after (parts_count a) ms) ds
   request_put false a ms parts ds = descriptors_put parts ds
 

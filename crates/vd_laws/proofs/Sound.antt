@@ -4,7 +4,7 @@ use Rattle.vd_num.specs.Number.{pages_of}
 use Rattle.vd_model.specs.Setting.{Setting, bounce_size}
 use Rattle.vd_model.specs.Acts.{Act, Node, Driver, Queue, Streaming, Coherent, Registered, Deregistered, Buffer, Zeroed, Mapped, Unmapped, Region_made, Region_freed, Ring_made, Ring_dropped}
 use Rattle.vd_model.specs.declared.queue.RingPlace.{RingPlace}
-use Rattle.vd_model.specs.Live.{Registration, buffers, maps, live, live_regions, registered}
+use Rattle.vd_model.specs.Live.{Registration, buffers, maps, live_mappings, live_regions, registration_of}
 use Rattle.vd_model.specs.Queues.{Ring, ring_of}
 use Rattle.vd_laws.specs.Among.{Among}
 use Rattle.vd_laws.proofs.Lists.{pushed, filtered}
@@ -17,33 +17,33 @@ IsOurs x (Some r) = (r.size ≡ bounce_size x) × (0 < x.per_page)
 
 -- what holds of what is live
 pub record Sound (x : Setting) (acts : List Act) : Type 0 where
-  pub numbers : (m : Streaming) → Among m (live acts) → m.number < maps acts
-  pub buffers_there : (m : Streaming) → Among m (live acts) → m.want.buffer < buffers acts
-  pub fits : (m : Streaming) → Among m (live acts) → m.slot + pages_of m.want.len ≤ x.bounce
-  pub one : (m n : Streaming) → Among m (live acts) → Among n (live acts) → (slot : ℕ) → covers m slot ≡ true → covers n slot ≡ true → m ≡ n
-  pub same : (m n : Streaming) → Among m (live acts) → Among n (live acts) → m.number ≡ n.number → m ≡ n
+  pub numbers : (m : Streaming) → Among m (live_mappings acts) → m.number < maps acts
+  pub buffers_there : (m : Streaming) → Among m (live_mappings acts) → m.want.buffer < buffers acts
+  pub fits : (m : Streaming) → Among m (live_mappings acts) → m.slot + pages_of m.want.len ≤ x.bounce
+  pub one : (m n : Streaming) → Among m (live_mappings acts) → Among n (live_mappings acts) → (slot : ℕ) → covers m slot ≡ true → covers n slot ≡ true → m ≡ n
+  pub same : (m n : Streaming) → Among m (live_mappings acts) → Among n (live_mappings acts) → m.number ≡ n.number → m ≡ n
   pub regions_high : (r : Coherent) → Among r (live_regions acts) → x.bounce ≤ r.slot
   pub rings_high : (q : ℕ) (r : Ring) → ring_of acts q ≡ Some r → IsHigh x r.place
-  pub ours : IsOurs x (registered acts)
+  pub ours : IsOurs x (registration_of acts)
 
 mapped_sound : (x : Setting) (acts : List Act) (m : Streaming) → IsFresh x acts m → Sound x acts → Sound x (Driver (Mapped m) ∷ acts)
 mapped_sound x acts m f s = record {
-  numbers = λ l h. elim (pushed l m (live acts) h) [ inl k ↦ (let r = s.numbers l k in omega arith) | inr e ↦ (let r : l.number ≡ maps acts = ap (λ n. n.number) e ∙ f.number in omega arith) ];
-  buffers_there = λ l h. elim (pushed l m (live acts) h) [ inl k ↦ s.buffers_there l k | inr e ↦ subst (λ n. n.want.buffer < buffers acts) (sym e) f.buffer ];
-  fits = λ l h. elim (pushed l m (live acts) h) [ inl k ↦ s.fits l k | inr e ↦ subst (λ n. n.slot + pages_of n.want.len ≤ x.bounce) (sym e) f.fits ];
-  one = λ l n hl hn slot cl cn. one l n (pushed l m (live acts) hl) (pushed n m (live acts) hn) slot cl cn;
-  same = λ l n hl hn e. same l n (pushed l m (live acts) hl) (pushed n m (live acts) hn) e;
+  numbers = λ l h. elim (pushed l m (live_mappings acts) h) [ inl k ↦ (let r = s.numbers l k in omega arith) | inr e ↦ (let r : l.number ≡ maps acts = ap (λ n. n.number) e ∙ f.number in omega arith) ];
+  buffers_there = λ l h. elim (pushed l m (live_mappings acts) h) [ inl k ↦ s.buffers_there l k | inr e ↦ subst (λ n. n.want.buffer < buffers acts) (sym e) f.buffer ];
+  fits = λ l h. elim (pushed l m (live_mappings acts) h) [ inl k ↦ s.fits l k | inr e ↦ subst (λ n. n.slot + pages_of n.want.len ≤ x.bounce) (sym e) f.fits ];
+  one = λ l n hl hn slot cl cn. one l n (pushed l m (live_mappings acts) hl) (pushed n m (live_mappings acts) hn) slot cl cn;
+  same = λ l n hl hn e. same l n (pushed l m (live_mappings acts) hl) (pushed n m (live_mappings acts) hn) e;
   regions_high = s.regions_high;
   rings_high = s.rings_high;
   ours = s.ours;
 } where
-  one : (l n : Streaming) → Among l (live acts) ⊎ (l ≡ m) → Among n (live acts) ⊎ (n ≡ m) → (slot : ℕ) → covers l slot ≡ true → covers n slot ≡ true → l ≡ n
+  one : (l n : Streaming) → Among l (live_mappings acts) ⊎ (l ≡ m) → Among n (live_mappings acts) ⊎ (n ≡ m) → (slot : ℕ) → covers l slot ≡ true → covers n slot ≡ true → l ≡ n
   one l n (inl hl) (inl hn) slot cl cn = s.one l n hl hn slot cl cn
   one l n (inl hl) (inr e) slot cl cn = absurd (f.apart l hl slot (subst (λ k. covers k slot ≡ true) e cn) cl)
   one l n (inr e) (inl hn) slot cl cn = absurd (f.apart n hn slot (subst (λ k. covers k slot ≡ true) e cl) cn)
   one l n (inr d) (inr e) slot cl cn = d ∙ sym e
 
-  same : (l n : Streaming) → Among l (live acts) ⊎ (l ≡ m) → Among n (live acts) ⊎ (n ≡ m) → l.number ≡ n.number → l ≡ n
+  same : (l n : Streaming) → Among l (live_mappings acts) ⊎ (l ≡ m) → Among n (live_mappings acts) ⊎ (n ≡ m) → l.number ≡ n.number → l ≡ n
   same l n (inl hl) (inl hn) e = s.same l n hl hn e
   same l n (inl hl) (inr d) e = let low = s.numbers l hl in let is : n.number ≡ maps acts = ap (λ k. k.number) d ∙ f.number in absurd (omega arith)
   same l n (inr d) (inl hn) e = let low = s.numbers n hn in let is : l.number ≡ maps acts = ap (λ k. k.number) d ∙ f.number in absurd (omega arith)
@@ -61,8 +61,8 @@ unmapped_sound x acts m s = record {
   rings_high = s.rings_high;
   ours = s.ours;
 } where
-  less : (n : Streaming) → Among n (live (Driver (Unmapped m) ∷ acts)) → Among n (live acts)
-  less n k = (filtered (λ l. not (l.number == m.number)) n (live acts) k).0
+  less : (n : Streaming) → Among n (live_mappings (Driver (Unmapped m) ∷ acts)) → Among n (live_mappings acts)
+  less n k = (filtered (λ l. not (l.number == m.number)) n (live_mappings acts) k).0
 
 made_sound : (x : Setting) (acts : List Act) (q : ℕ) (place : RingPlace) (region : ℕ) → IsHigh x place → Sound x acts → Sound x (Queue (Ring_made q place region) ∷ acts)
 made_sound x acts q place region high s = record { numbers = s.numbers; buffers_there = s.buffers_there; fits = s.fits; one = s.one; same = s.same; regions_high = s.regions_high; rings_high = λ k r e. by k r (q == k) e; ours = s.ours } where

@@ -18,7 +18,7 @@ use Rattle.vd_model.specs.Setting.{Setting}
 use Rattle.vd_model.specs.Creation.{Creation}
 use Rattle.vd_model.specs.Acts.{Act, Node, Driver, Bus, State, Opened, Attached}
 use Rattle.vd_model.specs.State.{Max_set}
-use Rattle.vd_model.specs.Turn.{Turn, given, lift}
+use Rattle.vd_model.specs.Turn.{Turn, refusal_if, lift}
 use Rattle.vd_model.specs.Raw.{Ioctl, Plain_node, Plain_area, Find_entry, Find_info, Tell_features, ioctl_of, control_step}
 use Rattle.vd_model.specs.NodeTurns.{opens, plain_turn, ioctl_turn, open_node_turn, node_turn}
 use Rattle.vd_model.specs.Live.{is_open, is_attached}
@@ -27,9 +27,9 @@ use Rattle.vd_model.specs.BusTurns.{bus_turn}
 use Rattle.vd_model.specs.DriverTurns.{driver_turn}
 use Rattle.vd_model.specs.DaemonTurns.{walk_turn, fetch_turn, execute_turn, finish_turn}
 use Rattle.vd_model.specs.RingTurns.{ring_turn, unring_turn, add_turn, publish_turn, submit_turn, poll_turn}
-use Rattle.vd_model.specs.Deeds.{Deed, Made, On, own, Seen, seen}
-use Rattle.vd_model.specs.ControlTurns.{Outcome, refuse_all, dev_made, plain_outcome, raw_outcome, control_outcome}
-use Rattle.vd_model.specs.History.{History, deeds_of, outcome, on, needs_session, needs_bus, is_kept, free_turn, disk_of, dev_turn, queue_turn, device_turn, device_queue_turn}
+use Rattle.vd_model.specs.Deeds.{Deed, Made, On, acts_of_device, Seen, device_view}
+use Rattle.vd_model.specs.ControlTurns.{Outcome, refuse_outcome, dev_made, plain_outcome, raw_outcome, control_outcome}
+use Rattle.vd_model.specs.History.{History, deeds_of, outcome, device_outcome, needs_session, needs_bus, is_kept, needs_unkept, disk_of, dev_turn, queue_turn, device_turn, device_queue_turn}
 use Rattle.vd_laws.specs.Runs.{acts_of}
 use Rattle.vd_laws.proofs.Legal.{Legal}
 use Rattle.vd_laws.proofs.Refusals.{IsLegalTurn, refuse_turn, there_turn}
@@ -55,13 +55,13 @@ module _ (x : Setting) (made : Creation) (done : List Act) (legal : Legal x done
   opened_legal step = plain_turns (plain_turn made done step) (node_plain made done step)
 
   node_legal : (step : NodeStep) → IsLegalTurn x done (node_turn x made done step)
-  node_legal step = refuse_turn x done legal (given (not (opens step) && not (is_open done)) Badf) (open_node_turn x made done step) (λ e. opened_legal step)
+  node_legal step = refuse_turn x done legal (refusal_if (not (opens step) && not (is_open done)) Badf) (open_node_turn x made done step) (λ e. opened_legal step)
 
   session_legal : (turn : Turn Act) → IsLegalTurn x done turn → IsLegalTurn x done (needs_session done turn)
-  session_legal turn h = refuse_turn x done legal (given (not (is_open done)) Badf) turn (λ e. h)
+  session_legal turn h = refuse_turn x done legal (refusal_if (not (is_open done)) Badf) turn (λ e. h)
 
   attached_legal : (turn : Turn Act) → IsLegalTurn x done turn → IsLegalTurn x done (needs_bus done turn)
-  attached_legal turn h = refuse_turn x done legal (given (not (is_attached done)) Nodev) turn (λ e. h)
+  attached_legal turn h = refuse_turn x done legal (refusal_if (not (is_attached done)) Nodev) turn (λ e. h)
 
 -- ---- a line on a device
 
@@ -70,8 +70,8 @@ dev_legal x made s legal (line.Node step) = node_legal x made s.acts legal step
 dev_legal x made s legal (line.Area step) = session_legal x made s.acts legal (lift Node (area_turn x s.acts step)) (area_legal x s.acts legal step)
 dev_legal x made s legal (line.Bus step) = plain_turns x made s.acts legal (bus_turn made s.now s.acts step) (bus_plain made s.now s.acts step)
 dev_legal x made s legal (line.Driver step) =
-    attached_legal x made s.acts legal (free_turn made s.acts step (lift Driver (driver_turn x s.acts step)))
-    (refuse_turn x s.acts legal (given (is_kept made s.acts step) Busy) (lift Driver (driver_turn x s.acts step)) (λ e. driver_legal x s.acts legal step))
+    attached_legal x made s.acts legal (needs_unkept made s.acts step (lift Driver (driver_turn x s.acts step)))
+    (refuse_turn x s.acts legal (refusal_if (is_kept made s.acts step) Busy) (lift Driver (driver_turn x s.acts step)) (λ e. driver_legal x s.acts legal step))
 
 queue_legal : (x : Setting) (made : Creation) (name : List ℕ) (s : Seen) (failed : Bool) → Legal x s.acts → (step : QueueStep) → IsLegalTurn x s.acts (queue_turn x made name s failed step)
 queue_legal x made name s failed legal (queue.Walk q head) = session_legal x made s.acts legal (walk_turn x made s.acts q head) (plain_turns x made s.acts legal (walk_turn x made s.acts q head) (walk_plain x made s.acts q head))
@@ -95,44 +95,44 @@ device_queue_legal x name s failed legal step = there_turn x s.acts legal (λ ma
 -- ---- a history
 
 -- what a turn on some name adds to the acts of a device
-pub own_on : (d name : List ℕ) (acts : List Act) (done : List Deed) → own d (map (On name) acts ++ done) ≡ (if bytes_eq d name then acts else []) ++ own d done
-own_on d name acts done = by (bytes_eq d name) refl where
-  by : (b : Bool) → bytes_eq d name ≡ b → own d (map (On name) acts ++ done) ≡ (if b then acts else []) ++ own d done
+pub acts_of_device_on : (d name : List ℕ) (acts : List Act) (done : List Deed) → acts_of_device d (map (On name) acts ++ done) ≡ (if bytes_eq d name then acts else []) ++ acts_of_device d done
+acts_of_device_on d name acts done = by (bytes_eq d name) refl where
+  by : (b : Bool) → bytes_eq d name ≡ b → acts_of_device d (map (On name) acts ++ done) ≡ (if b then acts else []) ++ acts_of_device d done
   by true e = mine acts where
-    mine : (acts : List Act) → own d (map (On name) acts ++ done) ≡ acts ++ own d done
+    mine : (acts : List Act) → acts_of_device d (map (On name) acts ++ done) ≡ acts ++ acts_of_device d done
     mine [] = refl
-    mine (act ∷ acts) = ap (λ b. cond b (act ∷ own d (map (On name) acts ++ done)) (own d (map (On name) acts ++ done))) e ∙ ap (λ l. act ∷ l) (mine acts)
+    mine (act ∷ acts) = ap (λ b. cond b (act ∷ acts_of_device d (map (On name) acts ++ done)) (acts_of_device d (map (On name) acts ++ done))) e ∙ ap (λ l. act ∷ l) (mine acts)
   by false e = theirs acts where
-    theirs : (acts : List Act) → own d (map (On name) acts ++ done) ≡ own d done
+    theirs : (acts : List Act) → acts_of_device d (map (On name) acts ++ done) ≡ acts_of_device d done
     theirs [] = refl
-    theirs (act ∷ acts) = ap (λ b. cond b (act ∷ own d (map (On name) acts ++ done)) (own d (map (On name) acts ++ done))) e ∙ theirs acts
+    theirs (act ∷ acts) = ap (λ b. cond b (act ∷ acts_of_device d (map (On name) acts ++ done)) (acts_of_device d (map (On name) acts ++ done))) e ∙ theirs acts
 
 -- the turn of a name's line is legal on each device
-on_legal : (x : Setting) (d name : List ℕ) (done : List Deed) (turn : Turn Act) → ((e : List ℕ) → Legal x (own e done)) → IsLegalTurn x (own name done) turn → Legal x (own d ((on name turn).deeds ++ done))
-on_legal x d name done turn each h = subst (Legal x) (sym (own_on d name turn.acts done)) (by (bytes_eq d name) refl) where
-  by : (b : Bool) → bytes_eq d name ≡ b → Legal x ((if b then turn.acts else []) ++ own d done)
-  by true e = subst (λ n. Legal x (turn.acts ++ own n done)) (sym ((bytes_eq-Decides d name).0 e)) h
+device_outcome_legal : (x : Setting) (d name : List ℕ) (done : List Deed) (turn : Turn Act) → ((e : List ℕ) → Legal x (acts_of_device e done)) → IsLegalTurn x (acts_of_device name done) turn → Legal x (acts_of_device d ((device_outcome name turn).deeds ++ done))
+device_outcome_legal x d name done turn each h = subst (Legal x) (sym (acts_of_device_on d name turn.acts done)) (by (bytes_eq d name) refl) where
+  by : (b : Bool) → bytes_eq d name ≡ b → Legal x ((if b then turn.acts else []) ++ acts_of_device d done)
+  by true e = subst (λ n. Legal x (turn.acts ++ acts_of_device n done)) (sym ((bytes_eq-Decides d name).0 e)) h
   by false e = each d
 
-refuse_deeds : (x : Setting) (d : List ℕ) (done : List Deed) (o : Option Errno) (outcome : Outcome) → Legal x (own d done) → Legal x (own d (outcome.deeds ++ done)) → Legal x (own d ((refuse_all o outcome).deeds ++ done))
+refuse_deeds : (x : Setting) (d : List ℕ) (done : List Deed) (o : Option Errno) (outcome : Outcome) → Legal x (acts_of_device d done) → Legal x (acts_of_device d (outcome.deeds ++ done)) → Legal x (acts_of_device d ((refuse_outcome o outcome).deeds ++ done))
 refuse_deeds x d done None outcome legal h = h
 refuse_deeds x d done (Some errno) outcome legal h = legal
 
-module _ (x : Setting) (d : List ℕ) (done : List Deed) (legal : Legal x (own d done)) where
-  made_legal : (name : List ℕ) (creation : Creation) → Legal x (own d (Made name creation ∷ done))
+module _ (x : Setting) (d : List ℕ) (done : List Deed) (legal : Legal x (acts_of_device d done)) where
+  made_legal : (name : List ℕ) (creation : Creation) → Legal x (acts_of_device d (Made name creation ∷ done))
   made_legal name creation = by (bytes_eq d name) where
-    by : (b : Bool) → Legal x (if b then [] else own d done)
+    by : (b : Bool) → Legal x (if b then [] else acts_of_device d done)
     by true = tt
     by false = legal
 
-  dev_made_legal : (name : List ℕ) → Legal x (own d ((dev_made name).deeds ++ done))
+  dev_made_legal : (name : List ℕ) → Legal x (acts_of_device d ((dev_made name).deeds ++ done))
   dev_made_legal name = by (bytes_eq d name) where
-    by : (b : Bool) → Legal x (cond b (Bus Attached ∷ cond b (State (Max_set 0 256) ∷ cond b (Node Opened ∷ cond b [] (own d done)) (cond b [] (own d done))) (cond b (Node Opened ∷ cond b [] (own d done)) (cond b [] (own d done))))
-        (cond b (State (Max_set 0 256) ∷ cond b (Node Opened ∷ cond b [] (own d done)) (cond b [] (own d done))) (cond b (Node Opened ∷ cond b [] (own d done)) (cond b [] (own d done)))))
+    by : (b : Bool) → Legal x (cond b (Bus Attached ∷ cond b (State (Max_set 0 256) ∷ cond b (Node Opened ∷ cond b [] (acts_of_device d done)) (cond b [] (acts_of_device d done))) (cond b (Node Opened ∷ cond b [] (acts_of_device d done)) (cond b [] (acts_of_device d done))))
+        (cond b (State (Max_set 0 256) ∷ cond b (Node Opened ∷ cond b [] (acts_of_device d done)) (cond b [] (acts_of_device d done))) (cond b (Node Opened ∷ cond b [] (acts_of_device d done)) (cond b [] (acts_of_device d done)))))
     by true = (tt, (tt, (tt, tt)))
     by false = legal
 
-  plain_outcome_legal : (step : ControlStep) → Legal x (own d ((plain_outcome x done step).deeds ++ done))
+  plain_outcome_legal : (step : ControlStep) → Legal x (acts_of_device d ((plain_outcome x done step).deeds ++ done))
   plain_outcome_legal control.Version = legal
   plain_outcome_legal (control.SetVersion version) = search (refuse_deeds, legal)
   plain_outcome_legal (control.Create name vendor device features queues align config) = search (refuse_deeds, legal, made_legal)
@@ -142,21 +142,21 @@ module _ (x : Setting) (d : List ℕ) (done : List Deed) (legal : Legal x (own d
   plain_outcome_legal (control.Image name first count) = search (refuse_deeds, legal)
   plain_outcome_legal (control.Control number bytes) = legal
 
-  raw_legal : (o : Option ControlStep) → Legal x (own d ((raw_outcome x done o).deeds ++ done))
+  raw_legal : (o : Option ControlStep) → Legal x (acts_of_device d ((raw_outcome x done o).deeds ++ done))
   raw_legal None = legal
   raw_legal (Some control.Version) = legal
   raw_legal (Some step) = plain_outcome_legal step
 
-  control_legal : (step : ControlStep) → Legal x (own d ((control_outcome x done step).deeds ++ done))
+  control_legal : (step : ControlStep) → Legal x (acts_of_device d ((control_outcome x done step).deeds ++ done))
   control_legal (control.Control number bytes) = raw_legal (control_step number bytes)
   control_legal step = plain_outcome_legal step
 
-outcome_legal : (x : Setting) (d : List ℕ) (done : List Deed) → ((e : List ℕ) → Legal x (own e done)) → (step : Step) (failed : Bool) → Legal x (own d ((outcome x done step failed).deeds ++ done))
+outcome_legal : (x : Setting) (d : List ℕ) (done : List Deed) → ((e : List ℕ) → Legal x (acts_of_device e done)) → (step : Step) (failed : Bool) → Legal x (acts_of_device d ((outcome x done step failed).deeds ++ done))
 outcome_legal x d done each (Control step) failed = control_legal x d done (each d) step
-outcome_legal x d done each (Device name step) failed = on_legal x d name done (device_turn x (seen x name done) step) each (device_legal x (seen x name done) (each name) step)
-outcome_legal x d done each (Queue name step) failed = on_legal x d name done (device_queue_turn x name (seen x name done) failed step) each (device_queue_legal x name (seen x name done) failed (each name) step)
+outcome_legal x d done each (Device name step) failed = device_outcome_legal x d name done (device_turn x (device_view x name done) step) each (device_legal x (device_view x name done) (each name) step)
+outcome_legal x d done each (Queue name step) failed = device_outcome_legal x d name done (device_queue_turn x name (device_view x name done) failed step) each (device_queue_legal x name (device_view x name done) failed (each name) step)
 
-pub own_legal : (x : Setting) (h : History) (d : List ℕ) → Legal x (acts_of x h d)
+pub acts_of_device_legal : (x : Setting) (h : History) (d : List ℕ) → Legal x (acts_of x h d)
 unfolding deeds_of
-own_legal x [] d = tt
-own_legal x (entry ∷ before) d = outcome_legal x d (deeds_of x before) (own_legal x before) entry.step entry.failed
+acts_of_device_legal x [] d = tt
+acts_of_device_legal x (entry ∷ before) d = outcome_legal x d (deeds_of x before) (acts_of_device_legal x before) entry.step entry.failed

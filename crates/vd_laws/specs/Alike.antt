@@ -5,7 +5,7 @@ use Rattle.vd_model.specs.Setting.{Setting}
 use Rattle.vd_model.specs.Acts.{Act, state_acts}
 use Rattle.vd_model.specs.Live.{is_open}
 use Rattle.vd_model.specs.Deeds.{Seen}
-use Rattle.vd_model.specs.Queues.{fetches, finishes, in_hand, executed}
+use Rattle.vd_model.specs.Queues.{fetches, finishes, in_hand, execution_of}
 use Rattle.vd_model.specs.DaemonTurns.{Hand, daemon_memory, first_used, hand}
 
 -- they were made alike, both have a session or neither, their state is the same, and so is each byte that can be accessed
@@ -32,4 +32,4 @@ pub record KeepsAlike (x : Setting) (acts others : List Act) (q : ℕ) : Type 0 
   pub fetched : fetches acts q ≡ fetches others q
   pub finished : finishes acts q ≡ finishes others q
   pub request : request_in_hand x acts q ≡ request_in_hand x others q
-  pub ended : executed acts q ≡ executed others q
+  pub ended : execution_of acts q ≡ execution_of others q

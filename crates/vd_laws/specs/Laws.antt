@@ -1,7 +1,7 @@
 -- All that is proved of a history.
 use Rattle.vd_model.specs.Setting.{Setting}
 use Rattle.vd_model.specs.History.{History}
-use Rattle.vd_laws.specs.Reads.{ReadLaw}
+use Rattle.vd_laws.specs.ReadLaw.{ReadLaw}
 use Rattle.vd_laws.specs.MemoryLaw.{MemoryLaw}
 use Rattle.vd_laws.specs.UsedBytesLaw.{UsedBytesLaw}
 use Rattle.vd_laws.specs.MessageLaw.{MessageLaw}

@@ -7,7 +7,7 @@ pub mod MemorySamples
 pub mod Presence
 pub mod Origins
 pub mod Alike
-pub mod Reads
+pub mod ReadLaw
 pub mod ReadSamples
 pub mod IsolationLaw
 pub mod MessageLaw
@@ -16,6 +16,4 @@ pub mod Small
 pub mod MessageInstances
 pub mod IsolationInstances
 pub mod ImageInstances
-pub mod Calm
-pub mod BlockLaw
 pub mod Laws

@@ -7,8 +7,8 @@ use Rattle.vd_model.specs.declared.step.DevStep.TheVariants as line
 use Rattle.vd_model.specs.declared.step.QueueStep.TheVariants as queue
 use Rattle.vd_model.specs.Setting.{Setting, bounce_size}
 use Rattle.vd_model.specs.Acts.{Act, Streaming, Node, Driver, Daemon_put, Buffer, Zeroed, Poked, Unmapped, Synced_cpu, Region_made, Driver_put}
-use Rattle.vd_model.specs.Live.{buffers, live}
-use Rattle.vd_model.specs.Puts.{is_from_device, ram, shown}
+use Rattle.vd_model.specs.Live.{buffers, live_mappings}
+use Rattle.vd_model.specs.Puts.{is_from_device, ram, shown_put}
 use Rattle.vd_model.specs.Direct.{brings_back, address_for}
 use Rattle.vd_model.specs.History.{History}
 use Rattle.vd_laws.specs.Among.{Among}
@@ -49,13 +49,13 @@ pub record MemoryLaw (x : Setting) (h : History) : Type 0 where
   pub others : (d : List ℕ) (act : Act) (acts : List Act) → IsMoment x h d (act ∷ acts)
       → (k i : ℕ) → may_change acts act k i ≡ false → ram x.per_page (act ∷ acts) k i ≡ ram x.per_page acts k i
   -- an unmap, and a sync to the driver, is of a live mapping
-  pub unmaps : (d : List ℕ) (m : Streaming) (acts : List Act) → IsMoment x h d (Driver (Unmapped m) ∷ acts) → Among m (live acts)
-  pub syncs : (d : List ℕ) (m : Streaming) (acts : List Act) → IsMoment x h d (Driver (Synced_cpu m) ∷ acts) → Among m (live acts) × IsTrue (is_from_device m.want.dir)
+  pub unmaps : (d : List ℕ) (m : Streaming) (acts : List Act) → IsMoment x h d (Driver (Unmapped m) ∷ acts) → Among m (live_mappings acts)
+  pub syncs : (d : List ℕ) (m : Streaming) (acts : List Act) → IsMoment x h d (Driver (Synced_cpu m) ∷ acts) → Among m (live_mappings acts) × IsTrue (is_from_device m.want.dir)
   -- an unmap brings the byte that stood at the mapping's address, and so does a sync
   pub unmapped : (d : List ℕ) (m : Streaming) (acts : List Act) → IsMoment x h d (Driver (Unmapped m) ∷ acts)
-      → (k i : ℕ) → IsTrue (brings_back m k i) → ram x.per_page (Driver (Unmapped m) ∷ acts) k i ≡ (shown x.per_page acts (address_for m i)).byte
+      → (k i : ℕ) → IsTrue (brings_back m k i) → ram x.per_page (Driver (Unmapped m) ∷ acts) k i ≡ (shown_put x.per_page acts (address_for m i)).byte
   pub synced : (d : List ℕ) (m : Streaming) (acts : List Act) → IsMoment x h d (Driver (Synced_cpu m) ∷ acts)
-      → (k i : ℕ) → IsTrue (brings_back m k i) → ram x.per_page (Driver (Synced_cpu m) ∷ acts) k i ≡ (shown x.per_page acts (address_for m i)).byte
+      → (k i : ℕ) → IsTrue (brings_back m k i) → ram x.per_page (Driver (Synced_cpu m) ∷ acts) k i ≡ (shown_put x.per_page acts (address_for m i)).byte
   -- past bounce memory of whole pages, bytes change only by acts that may change coherent ones
   pub coherent : IsWhole x → (d : List ℕ) (act : Act) (acts : List Act) → IsMoment x h d (act ∷ acts)
-      → (a : ℕ) → bounce_size x ≤ a → may_change_coherent act ≡ false → shown x.per_page (act ∷ acts) a ≡ shown x.per_page acts a
+      → (a : ℕ) → bounce_size x ≤ a → may_change_coherent act ≡ false → shown_put x.per_page (act ∷ acts) a ≡ shown_put x.per_page acts a

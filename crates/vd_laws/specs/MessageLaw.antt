@@ -21,17 +21,17 @@ use Rattle.vd_laws.specs.Among.{Among}
 use Rattle.vd_laws.specs.Runs.{acts_of}
 
 -- the acts on a device's messages, since it was last made
-abbrev pub heard : Setting → History → List ℕ → List MessageAct
-heard x h d = message_acts (acts_of x h d)
+abbrev pub message_acts_of : Setting → History → List ℕ → List MessageAct
+message_acts_of x h d = message_acts (acts_of x h d)
 
 -- a history with one more step
-abbrev pub after : History → Step → Bool → History
-after h step failed = record { step = step; failed = failed } ∷ h
+abbrev pub with_step : History → Step → Bool → History
+with_step h step failed = record { step = step; failed = failed } ∷ h
 
 -- the ids ascend
-abbrev pub Ascend : List Message → Type 0
-Ascend [] = Unit {0}
-Ascend (m ∷ ms) = ((k : Message) → Among k ms → m.id < k.id) × Ascend ms
+abbrev pub AreAscending : List Message → Type 0
+AreAscending [] = Unit {0}
+AreAscending (m ∷ ms) = ((k : Message) → Among k ms → m.id < k.id) × AreAscending ms
 
 -- of the outstanding messages that aren't held, the one of least id
 pub record IsNext (acts : List MessageAct) (m : Message) : Type 0 where
@@ -47,14 +47,14 @@ pub record Receives (before acts : List MessageAct) (words : Message → List It
   pub held : IsTrue (is_held acts which.id)
 
 -- an answer of this result to the id was accepted
-pub record Accepted (acts : List MessageAct) (id result : ℕ) : Type 0 where
+pub record IsAccepted (acts : List MessageAct) (id result : ℕ) : Type 0 where
   pub later : List MessageAct
   pub avail : ℕ
   pub earlier : List MessageAct
   pub split : acts ≡ later ++ Answered id result avail ∷ earlier
 
 -- a tick to `now`, after the id's send, found it outstanding, and this was the least deadline that was due then
-pub record Broken (acts : List MessageAct) (id deadline now : ℕ) : Type 0 where
+pub record IsBroken (acts : List MessageAct) (id deadline now : ℕ) : Type 0 where
   pub which : Message
   pub same : which.id ≡ id
   pub later : List MessageAct
@@ -68,29 +68,29 @@ pub record Broken (acts : List MessageAct) (id deadline now : ℕ) : Type 0 wher
 -- the law of one device's messages
 pub record DeviceMessages (x : Setting) (h : History) (d : List ℕ) : Type 0 where
   -- each id has at most one accepted answer, and the session held the id then
-  pub once : (id : ℕ) → answers_to id (heard x h d) ≤ 1
-  pub held : (later earlier : List MessageAct) (id result avail : ℕ) → heard x h d ≡ later ++ Answered id result avail ∷ earlier → IsTrue (is_held earlier id)
+  pub once : (id : ℕ) → answers_to id (message_acts_of x h d) ≤ 1
+  pub held : (later earlier : List MessageAct) (id result avail : ℕ) → message_acts_of x h d ≡ later ++ Answered id result avail ∷ earlier → IsTrue (is_held earlier id)
   -- what is outstanding stands in ascending order of ids
-  pub ascend : Ascend (outstanding (heard x h d))
+  pub ascend : AreAscending (outstanding (message_acts_of x h d))
   -- a receive tells the next message, and is refused only where every outstanding one is held
   pub recv : (failed : Bool) (items : List Item) → reply x h (Device d (Node Recv)) failed ≡ Done items
-      → Receives (heard x h d) (heard x (after h (Device d (Node Recv)) failed) d) (λ m. Word Id ∷ Number m.id ∷ body_items m.body) items
-  pub none : (failed : Bool) → reply x h (Device d (Node Recv)) failed ≡ Err Again → (k : Message) → Among k (outstanding (heard x h d)) → IsTrue (is_held (heard x h d) k.id)
+      → Receives (message_acts_of x h d) (message_acts_of x (with_step h (Device d (Node Recv)) failed) d) (λ m. Word Id ∷ Number m.id ∷ body_items m.body) items
+  pub none : (failed : Bool) → reply x h (Device d (Node Recv)) failed ≡ Err Again → (k : Message) → Among k (outstanding (message_acts_of x h d)) → IsTrue (is_held (message_acts_of x h d) k.id)
   -- so does a read, in the bytes of a request
   pub read : (failed : Bool) (len : ℕ) (items : List Item) → reply x h (Device d (Node (Read len))) failed ≡ Done items
-      → Receives (heard x h d) (heard x (after h (Device d (Node (Read len))) failed) d) (λ m. Text (request_bytes m.id m.body) ∷ []) items
+      → Receives (message_acts_of x h d) (message_acts_of x (with_step h (Device d (Node (Read len))) failed) d) (λ m. Text (request_bytes m.id m.body) ∷ []) items
   -- each receive of the run was of the next message
-  pub each : (later earlier : List MessageAct) (id : ℕ) → heard x h d ≡ later ++ Received id ∷ earlier → (m : Message) × IsNext earlier m × (m.id ≡ id)
+  pub each : (later earlier : List MessageAct) (id : ℕ) → message_acts_of x h d ≡ later ++ Received id ∷ earlier → (m : Message) × IsNext earlier m × (m.id ≡ id)
   -- after a close none is held, and the same messages are outstanding
-  pub requeued : (failed : Bool) → reply x h (Device d (Node Close)) failed ≡ Done [] → (id : ℕ) → is_held (heard x (after h (Device d (Node Close)) failed) d) id ≡ false
-  pub kept : (failed : Bool) → reply x h (Device d (Node Close)) failed ≡ Done [] → outstanding (heard x (after h (Device d (Node Close)) failed) d) ≡ outstanding (heard x h d)
+  pub requeued : (failed : Bool) → reply x h (Device d (Node Close)) failed ≡ Done [] → (id : ℕ) → is_held (message_acts_of x (with_step h (Device d (Node Close)) failed) d) id ≡ false
+  pub kept : (failed : Bool) → reply x h (Device d (Node Close)) failed ≡ Done [] → outstanding (message_acts_of x (with_step h (Device d (Node Close)) failed) d) ≡ outstanding (message_acts_of x h d)
   -- an id that is outstanding and wasn't received since the close comes before any greater one
-  pub again : (later since before : List MessageAct) (id : ℕ) → heard x h d ≡ later ++ Received id ∷ (since ++ Lost ∷ before)
+  pub again : (later since before : List MessageAct) (id : ℕ) → message_acts_of x h d ≡ later ++ Received id ∷ (since ++ Lost ∷ before)
       → (k : Message) → Among k (outstanding (since ++ Lost ∷ before)) → is_received since k.id ≡ false → id ≤ k.id
   -- a take is done by an accepted answer of result 0, and fails by one of another result, or by a tick that broke the device
-  pub done : (failed : Bool) (id : ℕ) (items : List Item) → reply x h (Device d (Bus (Take id))) failed ≡ Done items → Accepted (heard x h d) id 0
-  pub replied : (failed : Bool) (id result : ℕ) → reply x h (Device d (Bus (Take id))) failed ≡ FailedReply result → (result ≢ 0) × Accepted (heard x h d) id result
-  pub late : (failed : Bool) (id deadline now : ℕ) → reply x h (Device d (Bus (Take id))) failed ≡ FailedTimeout deadline now → Broken (heard x h d) id deadline now
+  pub done : (failed : Bool) (id : ℕ) (items : List Item) → reply x h (Device d (Bus (Take id))) failed ≡ Done items → IsAccepted (message_acts_of x h d) id 0
+  pub replied : (failed : Bool) (id result : ℕ) → reply x h (Device d (Bus (Take id))) failed ≡ FailedReply result → (result ≢ 0) × IsAccepted (message_acts_of x h d) id result
+  pub late : (failed : Bool) (id deadline now : ℕ) → reply x h (Device d (Bus (Take id))) failed ≡ FailedTimeout deadline now → IsBroken (message_acts_of x h d) id deadline now
 
 -- the law of messages, for every device
 abbrev pub MessageLaw : Setting → History → Type 0

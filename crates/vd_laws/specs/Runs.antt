@@ -2,12 +2,12 @@
 use Rattle.std.specs.Prelude.{ℕ, ◌*◌, ◌^◌, ◌≤◌, List, ◌++◌, ◌≡◌}
 use Rattle.vd_model.specs.Setting.{Setting}
 use Rattle.vd_model.specs.Acts.{Act}
-use Rattle.vd_model.specs.Deeds.{own}
+use Rattle.vd_model.specs.Deeds.{acts_of_device}
 use Rattle.vd_model.specs.History.{History, deeds_of}
 
 -- the acts on a device in a history since it was last made, the newest first
 abbrev pub acts_of : Setting → History → List ℕ → List Act
-acts_of x h d = own d (deeds_of x h)
+acts_of x h d = acts_of_device d (deeds_of x h)
 
 -- the device's acts up to some moment of a history
 abbrev pub IsMoment : Setting → History → List ℕ → List Act → Type 0

@@ -11,8 +11,8 @@ use Rattle.vd_model.specs.Setting.{Setting}
 use Rattle.vd_model.specs.History.{History}
 
 -- four slots of bounce memory, and an image of sixteen sectors of zeros
-abbrev pub small : Setting
-small = record { bounce = 4; iova = 8; per_page = 1; sectors = 16; content = λ i. 0 }
+abbrev pub small_setting : Setting
+small_setting = record { bounce = 4; iova = 8; per_page = 1; sectors = 16; content = λ i. 0 }
 
 -- two names
 abbrev pub v : List ℕ
@@ -22,8 +22,8 @@ abbrev pub w : List ℕ
 w = codes "w"
 
 -- a history of steps at which the image didn't fail, the newest first
-abbrev pub asked : List Step → History
-asked steps = map (λ step. record { step = step; failed = false }) steps
+abbrev pub history_of : List Step → History
+history_of steps = map (λ step. record { step = step; failed = false }) steps
 
 -- ---- steps
 

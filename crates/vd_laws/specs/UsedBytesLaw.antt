@@ -12,7 +12,7 @@ use Rattle.vd_model.specs.Setting.{Setting}
 use Rattle.vd_model.specs.Acts.{Act, Streaming, Driver, Mapped, Unmapped, Synced_device}
 use Rattle.vd_model.specs.Live.{iova_of}
 use Rattle.vd_model.specs.Puts.{is_from_device, ram, bus_bytes}
-use Rattle.vd_model.specs.Queues.{Ring, ring_of, reclaimed}
+use Rattle.vd_model.specs.Queues.{Ring, ring_of, reclaimed_count}
 use Rattle.vd_model.specs.Rings.{used_element_at}
 use Rattle.vd_model.specs.Direct.{daemon_writes}
 use Rattle.vd_model.specs.History.{History, reply}
@@ -29,8 +29,8 @@ last_write (act ∷ acts) m i = option_or (daemon_writes acts act (iova_of m + i
 pub record IsNextUsed (x : Setting) (acts : List Act) (q head len : ℕ) : Type 0 where
   pub ring : Ring
   pub there : ring_of acts q ≡ Some ring
-  pub heads : head ≡ field_at 4 (bus_bytes x.per_page acts (used_element_at ring.place (reclaimed acts q)) 8) 0
-  pub lengths : len ≡ field_at 4 (bus_bytes x.per_page acts (used_element_at ring.place (reclaimed acts q)) 8) 4
+  pub heads : head ≡ field_at 4 (bus_bytes x.per_page acts (used_element_at ring.place (reclaimed_count acts q)) 8) 0
+  pub lengths : len ≡ field_at 4 (bus_bytes x.per_page acts (used_element_at ring.place (reclaimed_count acts q)) 8) 4
 
 -- what comes back from a daemon in a history, on each device
 pub record UsedBytesLaw (x : Setting) (h : History) : Type 0 where

@@ -5,22 +5,22 @@
 //! model's definitions, and the engine hands them on for the run of a script.
 #![tactic(auto)]
 
-mod alone;
-mod direct;
-mod memory;
+mod all_laws;
+mod direct_law;
+mod image_law;
+mod isolation_law;
+mod memory_law;
+mod message_law;
 mod presence;
-mod reading;
-mod told;
-mod used;
-mod whole;
-mod windows;
+mod read_law;
+mod used_bytes_law;
 
-pub use alone::{instances_of_isolation, isolation};
-pub use direct::{direct_transfer, instances_of_direct};
-pub use memory::{driver_memory, instances_of_memory};
+pub use all_laws::laws;
+pub use direct_law::{direct_transfer, instances_of_direct};
+pub use image_law::{image_content, instances_of_image};
+pub use isolation_law::{instances_of_isolation, isolation};
+pub use memory_law::{driver_memory, instances_of_memory};
+pub use message_law::{instances_of_messages, messages};
 pub use presence::present_pages;
-pub use reading::{instances_of_reading, reads};
-pub use told::{instances_of_messages, messages};
-pub use used::{instances_of_used_bytes, used_bytes};
-pub use whole::laws;
-pub use windows::{image_content, instances_of_image};
+pub use read_law::{instances_of_reading, reads};
+pub use used_bytes_law::{instances_of_used_bytes, used_bytes};

@@ -15,28 +15,28 @@ use Rattle.vd_model.specs.declared.step.QueueStep.{QueueStep}
 use Rattle.vd_model.specs.declared.step.QueueStep.TheVariants as queue
 use Rattle.vd_model.specs.Setting.{Setting}
 use Rattle.vd_model.specs.Creation.{Creation}
-use Rattle.vd_model.specs.Acts.{Act, Added, Request, Streaming, Bus, State, Node, Message_act, Attached, Opened, Ring_made, Ring_dropped, Chain_added, Chain_reclaimed, Fetched}
+use Rattle.vd_model.specs.Acts.{Act, AddedChain, Request, Streaming, Bus, State, Node, Message_act, Attached, Opened, Ring_made, Ring_dropped, Chain_added, Chain_reclaimed, Fetched}
 use Rattle.vd_model.specs.Acts as act
 use Rattle.vd_model.specs.Messages.{Elapsed}
 use Rattle.vd_model.specs.State.{Max_set}
 use Rattle.vd_model.specs.Raw.{control_step}
-use Rattle.vd_model.specs.Live.{is_open, is_attached, live}
-use Rattle.vd_model.specs.Turn.{Turn, given}
+use Rattle.vd_model.specs.Live.{is_open, is_attached, live_mappings}
+use Rattle.vd_model.specs.Turn.{Turn, refusal_if}
 use Rattle.vd_model.specs.Rings.{next16}
-use Rattle.vd_model.specs.Queues.{Ring, ring_of, added, reclaimed, out, free}
+use Rattle.vd_model.specs.Queues.{Ring, ring_of, added_count, reclaimed_count, chains_out, free_descriptors}
 use Rattle.vd_model.specs.DaemonTurns.{has_indirect, event_puts, hand, used_position, queue_place, finish_puts, fetch_turn, execute_turn, finish_turn}
-use Rattle.vd_model.specs.RingTurns.{first_of, slot_put, request_puts, map_acts, buffer_acts, Asked, asked_by, parts_count, needed, part_of, submitted, submit_turn, ring_turn, poll_turn, completed, request_ended, used_event_puts}
-use Rattle.vd_model.specs.Deeds.{Deed, Made, own, clock, Seen, seen}
+use Rattle.vd_model.specs.RingTurns.{first_of, slot_put, request_puts, map_acts, buffer_acts, AskedRequest, asked_by, parts_count, needed_descriptors, mapping_part, submitted_turn, submit_turn, ring_turn, poll_turn, completed_turn, request_end_acts, used_event_puts}
+use Rattle.vd_model.specs.Deeds.{Deed, Made, acts_of_device, clock, Seen, device_view}
 use Rattle.vd_model.specs.ControlTurns.{plain_creation, control_outcome}
 use Rattle.vd_model.specs.History.{Entry, History, deeds_of, disk_of, needs_session, needs_bus, dev_turn, queue_turn, device_turn, device_queue_turn}
 use Rattle.vd_model.specs.Agree.{plain_concerns, raw_concerns, control_concerns, concerns}
 use Rattle.vd_laws.specs.Among.{Among}
 use Rattle.vd_laws.specs.Runs.{acts_of}
-use Rattle.vd_laws.specs.Calm.{is_calm, is_calm_queue_line}
-use Rattle.vd_laws.specs.BlockLaw.{placed}
-use Rattle.vd_laws.proofs.Kept.{granted, raw_granted, control_granted, if_done_either, control_does}
-use Rattle.vd_laws.proofs.Histories.{own_other}
-use Rattle.vd_laws.proofs.Turns.{own_on}
+use Rattle.vd_ring_laws.specs.Calm.{is_calm, is_calm_queue_line}
+use Rattle.vd_ring_laws.specs.Heads.{placed_heads}
+use Rattle.vd_laws.proofs.IsolationLaw.{granted, raw_granted, control_granted, if_done_either, control_does}
+use Rattle.vd_laws.proofs.Histories.{acts_of_device_other}
+use Rattle.vd_laws.proofs.Turns.{acts_of_device_on}
 use Rattle.vd_ring_laws.specs.ChainLaw.{have_descriptors}
 use Rattle.vd_ring_laws.specs.CalmLaw.{CalmLaw}
 use Rattle.vd_ring_laws.proofs.Mild.{is_mild, are_mild, drivers_are_mild, execute_mild}
@@ -78,7 +78,7 @@ put_calm (act ∷ acts) e = let p = and_parts (is_put act) (list_all is_put acts
 
 -- ---- a line on a queue
 
-some_needed : (indirect : Bool) (a : Asked) → 0 < needed indirect a
+some_needed : (indirect : Bool) (a : AskedRequest) → 0 < needed_descriptors indirect a
 some_needed true a = omega arith
 some_needed false a = by (is_some a.want) where
   by : (b : Bool) → 0 < cond b 3 2
@@ -90,28 +90,28 @@ some_taken zero xs h e = absurd (omega arith)
 some_taken (suc n) [] h e = absurd (grind (arith, nat_tests))
 some_taken (suc n) (x ∷ xs) h e = omega arith
 
-submitted_calm : (x : Setting) (done : List Act) (q : ℕ) (ring : Ring) (indirect : Bool) (a : Asked) (ms : List Streaming) (ds : List ℕ) → 0 < length ds → AreCalm (submitted x done q ring indirect a ms ds).acts
-submitted_calm x done q ring indirect a ms ds some =
-    let parts = map part_of (take (parts_count a) ms) in
-    let puts = slot_put ring.place (added done q) (first_of ds) ∷ request_puts indirect ring.place a ms parts ds ++ map_acts ms ++ buffer_acts indirect a parts in
+submitted_turn_calm : (x : Setting) (done : List Act) (q : ℕ) (ring : Ring) (indirect : Bool) (a : AskedRequest) (ms : List Streaming) (ds : List ℕ) → 0 < length ds → AreCalm (submitted_turn x done q ring indirect a ms ds).acts
+submitted_turn_calm x done q ring indirect a ms ds some =
+    let parts = map mapping_part (take (parts_count a) ms) in
+    let puts = slot_put ring.place (added_count done q) (first_of ds) ∷ request_puts indirect ring.place a ms parts ds ++ map_acts ms ++ buffer_acts indirect a parts in
     let are : are_driver puts ≡ true =
     append_driver (request_puts indirect ring.place a ms parts ds ++ map_acts ms) (buffer_acts indirect a parts)
     (append_driver (request_puts indirect ring.place a ms parts ds) (map_acts ms) (request_puts_driver indirect ring.place a ms parts ds) (maps_driver ms))
     (buffers_driver indirect a parts) in
     (tt, (tt, ((refl, some), driver_calm puts are)))
 
-completed_calm : (x : Setting) (done acts : List Act) (chain : Added) (len : ℕ) → AreCalm acts → AreCalm (completed x done acts chain len).acts
-completed_calm x done acts chain len h = by chain.request where
-  by : (o : Option Request) → AreCalm (completed x done acts (record { head = chain.head; descriptors = chain.descriptors; request = o }) len).acts
+completed_turn_calm : (x : Setting) (done acts : List Act) (chain : AddedChain) (len : ℕ) → AreCalm acts → AreCalm (completed_turn x done acts chain len).acts
+completed_turn_calm x done acts chain len h = by chain.request where
+  by : (o : Option Request) → AreCalm (completed_turn x done acts (record { head = chain.head; descriptors = chain.descriptors; request = o }) len).acts
   by None = h
-  by (Some r) = calm_append (request_ended (live done) r) acts (driver_calm (request_ended (live done) r) (ended_driver (live done) r)) h
+  by (Some r) = calm_append (request_end_acts (live_mappings done) r) acts (driver_calm (request_end_acts (live_mappings done) r) (ended_driver (live_mappings done) r)) h
 
 module _ (x : Setting) (made : Creation) (name : List ℕ) (s : Seen) (failed : Bool) where
   session_calm : (turn : Turn Act) → AreCalm turn.acts → AreCalm (needs_session s.acts turn).acts
-  session_calm turn h = refuse_is AreCalm tt (given (not (is_open s.acts)) Badf) turn (λ e. h)
+  session_calm turn h = refuse_is AreCalm tt (refusal_if (not (is_open s.acts)) Badf) turn (λ e. h)
 
   bus_calm : (turn : Turn Act) → AreCalm turn.acts → AreCalm (needs_bus s.acts turn).acts
-  bus_calm turn h = refuse_is AreCalm tt (given (not (is_attached s.acts)) Nodev) turn (λ e. h)
+  bus_calm turn h = refuse_is AreCalm tt (refusal_if (not (is_attached s.acts)) Nodev) turn (λ e. h)
 
   queue_calm : (step : QueueStep) → is_calm_queue_line step ≡ true → AreCalm (queue_turn x made name s failed step).acts
   queue_calm (queue.Fetch q) e = session_calm (fetch_turn x made s.acts q) (fetch_is AreCalm tt x made s.acts q (λ none ready place position chain bytes.
@@ -121,30 +121,30 @@ module _ (x : Setting) (made : Creation) (name : List ℕ) (s : Seen) (failed : 
       (tt, put_calm (finish_puts (queue_place s.acts q) (used_position x s.acts q) (hand x earlier q) end) (finish_put (queue_place s.acts q) (used_position x s.acts q) (hand x earlier q) end))))
   queue_calm (queue.Ring q size) e = bus_calm (ring_turn x made s.acts q size) (ring_is AreCalm tt x made s.acts q size (λ slot. (tt, (tt, tt))))
   queue_calm (queue.Submit q asked) e = bus_calm (submit_turn x made s.acts q asked) (submit_is AreCalm tt x made s.acts q asked (λ ring f full ms.
-      submitted_calm x s.acts q ring (has_indirect s.acts) (asked_by asked) ms (take (needed (has_indirect s.acts) (asked_by asked)) (free ring.place.size (out s.acts q)))
-      (some_taken (needed (has_indirect s.acts) (asked_by asked)) (free ring.place.size (out s.acts q)) (some_needed (has_indirect s.acts) (asked_by asked)) full)))
+      submitted_turn_calm x s.acts q ring (has_indirect s.acts) (asked_by asked) ms (take (needed_descriptors (has_indirect s.acts) (asked_by asked)) (free_descriptors ring.place.size (chains_out s.acts q)))
+      (some_taken (needed_descriptors (has_indirect s.acts) (asked_by asked)) (free_descriptors ring.place.size (chains_out s.acts q)) (some_needed (has_indirect s.acts) (asked_by asked)) full)))
   queue_calm (queue.Poll q) e = bus_calm (poll_turn x made s.acts q) (poll_is AreCalm tt x made s.acts q (λ r chain there len.
-      completed_calm x s.acts (act.Queue (Chain_reclaimed q chain.head) ∷ used_event_puts s.acts r (reclaimed s.acts q + 1)) chain len
-      (tt, driver_calm (used_event_puts s.acts r (reclaimed s.acts q + 1)) (used_event_driver s.acts r (reclaimed s.acts q + 1)))))
+      completed_turn_calm x s.acts (act.Queue (Chain_reclaimed q chain.head) ∷ used_event_puts s.acts r (reclaimed_count s.acts q + 1)) chain len
+      (tt, driver_calm (used_event_puts s.acts r (reclaimed_count s.acts q + 1)) (used_event_driver s.acts r (reclaimed_count s.acts q + 1)))))
   queue_calm _ e = cc
 
 -- ---- a control line
 
 module _ (d : List ℕ) (t : ℕ) (done : List Deed) where
-  made_same : (name : List ℕ) (creation : Creation) → bytes_eq d name ≡ false → own d (Made name creation ∷ done) ≡ own d done
-  made_same name creation e = ap (λ b. cond b [] (own d done)) e
+  made_same : (name : List ℕ) (creation : Creation) → bytes_eq d name ≡ false → acts_of_device d (Made name creation ∷ done) ≡ acts_of_device d done
+  made_same name creation e = ap (λ b. cond b [] (acts_of_device d done)) e
 
-  granted_same : (step : ControlStep) → plain_concerns d step ≡ false → own d (granted t step ++ done) ≡ own d done
+  granted_same : (step : ControlStep) → plain_concerns d step ≡ false → acts_of_device d (granted t step ++ done) ≡ acts_of_device d done
   granted_same (control.Create name vendor device features queues align config) e = made_same name (record { features = features; queues = queues; config = config }) e
-  granted_same (control.Dev name) e = own_other d name (Bus Attached ∷ State (Max_set 0 256) ∷ Node Opened ∷ []) (Made name plain_creation ∷ done) e ∙ made_same name plain_creation e
+  granted_same (control.Dev name) e = acts_of_device_other d name (Bus Attached ∷ State (Max_set 0 256) ∷ Node Opened ∷ []) (Made name plain_creation ∷ done) e ∙ made_same name plain_creation e
   granted_same (control.Tick seconds) e = cc
   granted_same _ e = refl
 
-  raw_same : (o : Option ControlStep) → raw_concerns d o ≡ false → own d (raw_granted t o ++ done) ≡ own d done
+  raw_same : (o : Option ControlStep) → raw_concerns d o ≡ false → acts_of_device d (raw_granted t o ++ done) ≡ acts_of_device d done
   raw_same None e = refl
   raw_same (Some step) e = granted_same step e
 
-  control_same : (step : ControlStep) → control_concerns d step ≡ false → own d (control_granted t step ++ done) ≡ own d done
+  control_same : (step : ControlStep) → control_concerns d step ≡ false → acts_of_device d (control_granted t step ++ done) ≡ acts_of_device d done
   control_same (control.Control number bytes) e = raw_same (control_step number bytes) e
   control_same control.Version e = refl
   control_same (control.SetVersion version) e = refl
@@ -178,18 +178,18 @@ module _ (x : Setting) (d : List ℕ) (h : History) where
   other_control step failed e = record {
     acts = [];
     calm = tt;
-    same = ap (λ deeds. own d (deeds ++ deeds_of x h)) (control_does x (deeds_of x h) step)
+    same = ap (λ deeds. acts_of_device d (deeds ++ deeds_of x h)) (control_does x (deeds_of x h) step)
         ∙ elim (if_done_either (control_outcome x (deeds_of x h) step).answer (control_granted (clock (deeds_of x h)) step)) [
-          | inl f ↦ ap (λ deeds. own d (deeds ++ deeds_of x h)) f ∙ control_same d (clock (deeds_of x h)) (deeds_of x h) step e
-          | inr f ↦ ap (λ deeds. own d (deeds ++ deeds_of x h)) f
+          | inl f ↦ ap (λ deeds. acts_of_device d (deeds ++ deeds_of x h)) f ∙ control_same d (clock (deeds_of x h)) (deeds_of x h) step e
+          | inr f ↦ ap (λ deeds. acts_of_device d (deeds ++ deeds_of x h)) f
         ];
   }
 
   tick_adds : (seconds : ℕ) (failed : Bool) → Adds x d (record { step = Control (control.Tick seconds); failed = failed } ∷ h) h
   unfolding deeds_of
   tick_adds seconds failed = elim (if_done_either (control_outcome x (deeds_of x h) (control.Tick seconds)).answer (control_granted (clock (deeds_of x h)) (control.Tick seconds))) [
-    | inl f ↦ record { acts = Message_act (Elapsed (clock (deeds_of x h) + seconds)) ∷ []; calm = (tt, tt); same = ap (λ deeds. own d (deeds ++ deeds_of x h)) (control_does x (deeds_of x h) (control.Tick seconds) ∙ f) }
-    | inr f ↦ record { acts = []; calm = tt; same = ap (λ deeds. own d (deeds ++ deeds_of x h)) (control_does x (deeds_of x h) (control.Tick seconds) ∙ f) }
+    | inl f ↦ record { acts = Message_act (Elapsed (clock (deeds_of x h) + seconds)) ∷ []; calm = (tt, tt); same = ap (λ deeds. acts_of_device d (deeds ++ deeds_of x h)) (control_does x (deeds_of x h) (control.Tick seconds) ∙ f) }
+    | inr f ↦ record { acts = []; calm = tt; same = ap (λ deeds. acts_of_device d (deeds ++ deeds_of x h)) (control_does x (deeds_of x h) (control.Tick seconds) ∙ f) }
   ]
 
   control_adds : (step : ControlStep) (failed : Bool) → (control_concerns d step ≡ true → is_calm (Control step) ≡ true) → Adds x d (record { step = Control step; failed = failed } ∷ h) h
@@ -206,15 +206,15 @@ module _ (x : Setting) (d : List ℕ) (h : History) where
   unfolding deeds_of
   step_adds (Control step) failed c = control_adds step failed c
   step_adds (Device name step) failed c =
-      on_line name (device_turn x (seen x name (deeds_of x h)) step) (record { step = Device name step; failed = failed } ∷ h)
-      (λ e. option_is AreCalm tt (λ made. dev_turn x made (seen x name (deeds_of x h)) step) (seen x name (deeds_of x h)).made Nodev (λ made f.
-      mild_calm (dev_turn x made (seen x name (deeds_of x h)) step).acts (dev_mild x made (seen x name (deeds_of x h)) step)))
-      (own_on d name (device_turn x (seen x name (deeds_of x h)) step).acts (deeds_of x h))
+      on_line name (device_turn x (device_view x name (deeds_of x h)) step) (record { step = Device name step; failed = failed } ∷ h)
+      (λ e. option_is AreCalm tt (λ made. dev_turn x made (device_view x name (deeds_of x h)) step) (device_view x name (deeds_of x h)).made Nodev (λ made f.
+      mild_calm (dev_turn x made (device_view x name (deeds_of x h)) step).acts (dev_mild x made (device_view x name (deeds_of x h)) step)))
+      (acts_of_device_on d name (device_turn x (device_view x name (deeds_of x h)) step).acts (deeds_of x h))
   step_adds (Queue name step) failed c =
-      on_line name (device_queue_turn x name (seen x name (deeds_of x h)) failed step) (record { step = Queue name step; failed = failed } ∷ h)
-      (λ e. option_is AreCalm tt (λ made. queue_turn x made name (seen x name (deeds_of x h)) failed step) (seen x name (deeds_of x h)).made Nodev (λ made f.
-      queue_calm x made name (seen x name (deeds_of x h)) failed step (c e)))
-      (own_on d name (device_queue_turn x name (seen x name (deeds_of x h)) failed step).acts (deeds_of x h))
+      on_line name (device_queue_turn x name (device_view x name (deeds_of x h)) failed step) (record { step = Queue name step; failed = failed } ∷ h)
+      (λ e. option_is AreCalm tt (λ made. queue_turn x made name (device_view x name (deeds_of x h)) failed step) (device_view x name (deeds_of x h)).made Nodev (λ made f.
+      queue_calm x made name (device_view x name (deeds_of x h)) failed step (c e)))
+      (acts_of_device_on d name (device_queue_turn x name (device_view x name (deeds_of x h)) failed step).acts (deeds_of x h))
 
 pub span_adds : (x : Setting) (d : List ℕ) (start : History) (span : List Entry) → ((entry : Entry) → Among entry span → IsTrue (concerns d entry.step) → IsTrue (is_calm entry.step)) → Adds x d (span ++ start) start
 span_adds x d start [] c = record { acts = []; calm = tt; same = refl }
@@ -244,18 +244,18 @@ module _ (before : List Act) (q : ℕ) (ring : Ring) where
     by false h = h
   have_all (_ ∷ acts) c e = have_all acts c.1 e
 
-  count_all : (acts : List Act) → AreCalm acts → ring_of acts q ≡ Some ring → added (acts ++ before) q ≡ length (placed (acts ++ before) q)
+  count_all : (acts : List Act) → AreCalm acts → ring_of acts q ≡ Some ring → added_count (acts ++ before) q ≡ length (placed_heads (acts ++ before) q)
   count_all [] c e = cc
   count_all (act.Queue (Ring_made k place region) ∷ acts) c e = by (k == q) e (count_all acts c.1) where
-    by : (b : Bool) → cond b (Some (record { place = place; region = region })) (ring_of acts q) ≡ Some ring → (ring_of acts q ≡ Some ring → added (acts ++ before) q ≡ length (placed (acts ++ before) q))
-        → cond b 0 (added (acts ++ before) q) ≡ length (cond b [] (placed (acts ++ before) q))
+    by : (b : Bool) → cond b (Some (record { place = place; region = region })) (ring_of acts q) ≡ Some ring → (ring_of acts q ≡ Some ring → added_count (acts ++ before) q ≡ length (placed_heads (acts ++ before) q))
+        → cond b 0 (added_count (acts ++ before) q) ≡ length (cond b [] (placed_heads (acts ++ before) q))
     by true f later = refl
     by false f later = later f
   count_all (act.Queue (Ring_dropped k) ∷ acts) c e = absurd c.0
   count_all (act.Queue (Chain_added k chain) ∷ acts) c e = by (k == q) (is_some chain.request) c.0.0 (count_all acts c.1 e) where
-    by : (b some : Bool) → some ≡ true → added (acts ++ before) q ≡ length (placed (acts ++ before) q)
-        → cond b (added (acts ++ before) q + 1) (added (acts ++ before) q) ≡ length (cond (b && some) (placed (acts ++ before) q ++ chain.head ∷ []) (placed (acts ++ before) q))
-    by true true i h = let l : length (placed (acts ++ before) q ++ chain.head ∷ []) ≡ length (placed (acts ++ before) q) + 1 = length-append (placed (acts ++ before) q) (chain.head ∷ []) in omega arith
+    by : (b some : Bool) → some ≡ true → added_count (acts ++ before) q ≡ length (placed_heads (acts ++ before) q)
+        → cond b (added_count (acts ++ before) q + 1) (added_count (acts ++ before) q) ≡ length (cond (b && some) (placed_heads (acts ++ before) q ++ chain.head ∷ []) (placed_heads (acts ++ before) q))
+    by true true i h = let l : length (placed_heads (acts ++ before) q ++ chain.head ∷ []) ≡ length (placed_heads (acts ++ before) q) + 1 = length-append (placed_heads (acts ++ before) q) (chain.head ∷ []) in omega arith
     by true false i h = cc
     by false some i h = h
   count_all (_ ∷ acts) c e = count_all acts c.1 e
@@ -269,5 +269,5 @@ calm_law x h d c q ring e =
     let have : have_descriptors (acts_of x h d) q ≡ true = subst (λ l. have_descriptors l q ≡ true) (sym same) (have_all (acts_of x c.start d) q ring a.acts a.calm inside) in
     record {
       apart = apart_after (acts_of x h d) q ring (fair_after x h d) have e;
-      counted = subst (λ l. added l q ≡ length (placed l q)) (sym same) (count_all (acts_of x c.start d) q ring a.acts a.calm inside);
+      counted = subst (λ l. added_count l q ≡ length (placed_heads l q)) (sym same) (count_all (acts_of x c.start d) q ring a.acts a.calm inside);
     }

@@ -3,8 +3,8 @@ use Rattle.std.proofs.Common.{◌≡◌, ℕ, zero, suc, ◌+◌, ◌<◌, ◌�
 use Rattle.std.specs.List.{filter}
 use Rattle.std.proofs.lemmas.Bool.{ne_eqb}
 use Rattle.std.proofs.lemmas.Bool.Decides.{nat_tests}
-use Rattle.vd_model.specs.Acts.{Added}
-use Rattle.vd_model.specs.Queues.{is_other}
+use Rattle.vd_model.specs.Acts.{AddedChain}
+use Rattle.vd_model.specs.Queues.{is_other_chain}
 use Rattle.vd_laws.specs.Among.{Among}
 use Rattle.vd_laws.proofs.Lists.{pushed, filtered}
 use Rattle.vd_ring_laws.specs.ChainLaw.{heads, AreDistinct}
@@ -49,21 +49,21 @@ few_below (suc n) ns d low =
 
 -- ---- heads
 
-pub heads_push : (chains : List Added) (chain : Added) → heads (chains ++ chain ∷ []) ≡ heads chains ++ chain.head ∷ []
+pub heads_push : (chains : List AddedChain) (chain : AddedChain) → heads (chains ++ chain ∷ []) ≡ heads chains ++ chain.head ∷ []
 heads_push [] chain = refl
 heads_push (c ∷ chains) chain = ap (λ l. c.head ∷ l) (heads_push chains chain)
 
-pub head_among : (chain : Added) (chains : List Added) → Among chain chains → Among chain.head (heads chains)
+pub head_among : (chain : AddedChain) (chains : List AddedChain) → Among chain chains → Among chain.head (heads chains)
 head_among c [] h = absurd h
 head_among c (d ∷ chains) (inl e) = inl (ap (λ c. c.head) e)
 head_among c (d ∷ chains) (inr h) = inr (head_among c chains h)
 
-pub among_head : (n : ℕ) (chains : List Added) → Among n (heads chains) → (chain : Added) × Among chain chains × (n ≡ chain.head)
+pub among_head : (n : ℕ) (chains : List AddedChain) → Among n (heads chains) → (chain : AddedChain) × Among chain chains × (n ≡ chain.head)
 among_head n [] h = absurd h
 among_head n (c ∷ chains) (inl e) = (c, inl refl, e)
 among_head n (c ∷ chains) (inr h) = let r = among_head n chains h in (r.0, inr r.1, r.2)
 
-pub distinct_filter : (p : Added → Bool) (chains : List Added) → AreDistinct (heads chains) → AreDistinct (heads (filter p chains))
+pub distinct_filter : (p : AddedChain → Bool) (chains : List AddedChain) → AreDistinct (heads chains) → AreDistinct (heads (filter p chains))
 distinct_filter p [] d = tt
 distinct_filter p (c ∷ chains) d = by (p c) (distinct_filter p chains d.1) where
   less : Among c.head (heads (filter p chains)) → Among c.head (heads chains)
@@ -73,16 +73,16 @@ distinct_filter p (c ∷ chains) d = by (p c) (distinct_filter p chains d.1) whe
   by true later = ((λ h. d.0 (less h)), later)
   by false later = later
 
-all_other : (n : ℕ) (chains : List Added) → (Among n (heads chains) → ⊥) → filter (is_other n) chains ≡ chains
+all_other : (n : ℕ) (chains : List AddedChain) → (Among n (heads chains) → ⊥) → filter (is_other_chain n) chains ≡ chains
 all_other n [] h = refl
-all_other n (c ∷ chains) h = ap (λ b. cond (not b) (c ∷ filter (is_other n) chains) (filter (is_other n) chains)) (ne_eqb c.head n (λ e. h (inl (sym e)))) ∙ ap (λ l. c ∷ l) (all_other n chains (λ j. h (inr j)))
+all_other n (c ∷ chains) h = ap (λ b. cond (not b) (c ∷ filter (is_other_chain n) chains) (filter (is_other_chain n) chains)) (ne_eqb c.head n (λ e. h (inl (sym e)))) ∙ ap (λ l. c ∷ l) (all_other n chains (λ j. h (inr j)))
 
 -- where a head is taken out, one chain goes
-pub one_less : (n : ℕ) (chains : List Added) → AreDistinct (heads chains) → Among n (heads chains) → length chains ≡ length (filter (is_other n) chains) + 1
+pub one_less : (n : ℕ) (chains : List AddedChain) → AreDistinct (heads chains) → Among n (heads chains) → length chains ≡ length (filter (is_other_chain n) chains) + 1
 one_less n [] d h = absurd h
 one_less n (c ∷ chains) d h = by (c.head == n) refl h (one_less n chains d.1) where
-  by : (b : Bool) → (c.head == n) ≡ b → (n ≡ c.head) ⊎ Among n (heads chains) → (Among n (heads chains) → length chains ≡ length (filter (is_other n) chains) + 1)
-      → suc (length chains) ≡ length (cond (not b) (c ∷ filter (is_other n) chains) (filter (is_other n) chains)) + 1
-  by true e i later = (let l : length (filter (is_other n) chains) ≡ length chains = ap length (all_other n chains (subst (λ k. Among k (heads chains) → ⊥) (eqb-true c.head n e) d.0)) in omega arith)
+  by : (b : Bool) → (c.head == n) ≡ b → (n ≡ c.head) ⊎ Among n (heads chains) → (Among n (heads chains) → length chains ≡ length (filter (is_other_chain n) chains) + 1)
+      → suc (length chains) ≡ length (cond (not b) (c ∷ filter (is_other_chain n) chains) (filter (is_other_chain n) chains)) + 1
+  by true e i later = (let l : length (filter (is_other_chain n) chains) ≡ length chains = ap length (all_other n chains (subst (λ k. Among k (heads chains) → ⊥) (eqb-true c.head n e) d.0)) in omega arith)
   by false e (inl same) later = absurd (grind (arith, nat_tests))
   by false e (inr k) later = let l = later k in omega arith

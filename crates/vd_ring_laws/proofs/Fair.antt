@@ -6,22 +6,22 @@ use Rattle.vd_model.specs.declared.parts.Part.{Part}
 use Rattle.vd_model.specs.declared.queue.RingPlace.{RingPlace}
 use Rattle.vd_model.specs.Setting.{Setting}
 use Rattle.vd_model.specs.Creation.{Creation}
-use Rattle.vd_model.specs.Acts.{Act, Added, Node, Queue, Daemon_put, Chain_added, Chain_reclaimed, Fetched, Finished, state_acts}
+use Rattle.vd_model.specs.Acts.{Act, AddedChain, Node, Queue, Daemon_put, Chain_added, Chain_reclaimed, Fetched, Finished, state_acts}
 use Rattle.vd_model.specs.State.{is_ready}
-use Rattle.vd_model.specs.Queues.{Ring, ring_of, out, published_out, is_used, in_hand, Executed_as}
+use Rattle.vd_model.specs.Queues.{Ring, ring_of, chains_out, published_chains_out, is_in_chains, in_hand, Execution}
 use Rattle.vd_model.specs.Rings.{available_event_at, next16}
 use Rattle.vd_model.specs.Raw.{little_bytes}
-use Rattle.vd_model.specs.DaemonTurns.{event_puts, queue_place, has_event_idx, fetch_turn, Hand, hand, used_position, spread, finish_puts, finish_turn}
+use Rattle.vd_model.specs.DaemonTurns.{event_puts, queue_place, has_event_idx, fetch_turn, Hand, hand, used_position, spread_acts, finish_puts, finish_turn}
 use Rattle.vd_model.specs.RingTurns.{first_of}
 use Rattle.vd_laws.specs.Among.{Among}
 use Rattle.vd_ring_laws.proofs.Leaves.{fetch_is, finish_is}
 use Rattle.vd_ring_laws.proofs.Mild.{is_mild, are_mild}
 
 -- a chain of descriptors that are free in its ring
-pub record IsTaken (acts : List Act) (q : ℕ) (chain : Added) : Type 0 where
+pub record IsTaken (acts : List Act) (q : ℕ) (chain : AddedChain) : Type 0 where
   pub ring : Ring
   pub there : ring_of acts q ≡ Some ring
-  pub free : (k : ℕ) → Among k chain.descriptors → (k < ring.place.size) × (is_used (out acts q) k ≡ false)
+  pub free : (k : ℕ) → Among k chain.descriptors → (k < ring.place.size) × (is_in_chains (chains_out acts q) k ≡ false)
   pub first : chain.head ≡ first_of chain.descriptors
 
 -- what an act has tested
@@ -29,7 +29,7 @@ abbrev pub Admits : List Act → Act → Type 0
 Admits acts (Queue (Fetched q)) = (in_hand acts q ≡ None) × (is_ready (state_acts acts) q ≡ true)
 Admits acts (Queue (Finished q)) = is_some (in_hand acts q) ≡ true
 Admits acts (Queue (Chain_added q chain)) = IsTaken acts q chain
-Admits acts (Queue (Chain_reclaimed q head)) = (c : Added) × Among c (published_out acts q) × (c.head ≡ head)
+Admits acts (Queue (Chain_reclaimed q head)) = (c : AddedChain) × Among c (published_chains_out acts q) × (c.head ≡ head)
 Admits acts _ = Unit {0}
 
 abbrev pub Fair : List Act → Type 0
@@ -77,12 +77,12 @@ pub puts_fair : (puts acts : List Act) → list_all is_put puts ≡ true → Fai
 puts_fair [] acts e h = h
 puts_fair (act ∷ puts) acts e h = let p = and_parts (is_put act) (list_all is_put puts) e in (mild_admitted act (puts ++ acts) (put_mild act p.0), puts_fair puts acts p.1 h)
 
-pub spread_put : (parts : List Part) (bytes : List ℕ) (acts : List Act) → list_all is_put acts ≡ true → list_all is_put (spread parts bytes acts) ≡ true
-spread_put [] bytes acts e = e
-spread_put (part ∷ parts) bytes acts e = by part.writable
-    (spread_put parts (drop part.len bytes) (Node (Daemon_put part.at (take part.len bytes)) ∷ acts) e) (spread_put parts bytes acts e) where
-      by : (b : Bool) → list_all is_put (spread parts (drop part.len bytes) (Node (Daemon_put part.at (take part.len bytes)) ∷ acts)) ≡ true → list_all is_put (spread parts bytes acts) ≡ true
-          → list_all is_put (if b then spread parts (drop part.len bytes) (Node (Daemon_put part.at (take part.len bytes)) ∷ acts) else spread parts bytes acts) ≡ true
+pub spread_acts_put : (parts : List Part) (bytes : List ℕ) (acts : List Act) → list_all is_put acts ≡ true → list_all is_put (spread_acts parts bytes acts) ≡ true
+spread_acts_put [] bytes acts e = e
+spread_acts_put (part ∷ parts) bytes acts e = by part.writable
+    (spread_acts_put parts (drop part.len bytes) (Node (Daemon_put part.at (take part.len bytes)) ∷ acts) e) (spread_acts_put parts bytes acts e) where
+      by : (b : Bool) → list_all is_put (spread_acts parts (drop part.len bytes) (Node (Daemon_put part.at (take part.len bytes)) ∷ acts)) ≡ true → list_all is_put (spread_acts parts bytes acts) ≡ true
+          → list_all is_put (if b then spread_acts parts (drop part.len bytes) (Node (Daemon_put part.at (take part.len bytes)) ∷ acts) else spread_acts parts bytes acts) ≡ true
       by true there other = there
       by false there other = other
 
@@ -92,8 +92,8 @@ event_put done place position = by (has_event_idx done) where
   by true = refl
   by false = refl
 
-pub finish_put : (place : RingPlace) (used : ℕ) (h : Hand) (end : Executed_as) → list_all is_put (finish_puts place used h end) ≡ true
-finish_put place used h end = spread_put h.parts (end.bytes ++ end.status ∷ []) [] refl
+pub finish_put : (place : RingPlace) (used : ℕ) (h : Hand) (end : Execution) → list_all is_put (finish_puts place used h end) ≡ true
+finish_put place used h end = spread_acts_put h.parts (end.bytes ++ end.status ∷ []) [] refl
 
 -- ---- the block daemon's lines
 

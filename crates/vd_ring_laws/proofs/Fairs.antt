@@ -21,18 +21,18 @@ use Rattle.vd_model.specs.Live.{is_open, is_attached}
 use Rattle.vd_model.specs.Acts.{Act, Bus, State, Node, Driver, Attached, Opened}
 use Rattle.vd_model.specs.State.{Max_set}
 use Rattle.vd_model.specs.Raw.{Ioctl, Plain_node, Plain_area, Find_entry, Find_info, Tell_features, ioctl_of, control_step}
-use Rattle.vd_model.specs.Turn.{Turn, refuse, refused, given, lift}
+use Rattle.vd_model.specs.Turn.{Turn, refuse, refusal_turn, refusal_if, lift}
 use Rattle.vd_model.specs.AreaTurns.{area_turn, found_or}
 use Rattle.vd_model.specs.DriverTurns.{driver_turn}
 use Rattle.vd_model.specs.NodeTurns.{opens, ioctl_turn, open_node_turn}
 use Rattle.vd_model.specs.DaemonTurns.{walk_turn, fetch_turn, execute_turn, finish_turn}
 use Rattle.vd_model.specs.RingTurns.{ring_turn, unring_turn, add_turn, publish_turn, submit_turn, poll_turn}
-use Rattle.vd_model.specs.Deeds.{Deed, Made, On, own, clock, Seen, seen}
+use Rattle.vd_model.specs.Deeds.{Deed, Made, On, acts_of_device, clock, Seen, device_view}
 use Rattle.vd_model.specs.ControlTurns.{plain_creation, control_outcome}
-use Rattle.vd_model.specs.History.{History, deeds_of, outcome, needs_session, needs_bus, is_kept, free_turn, disk_of, dev_turn, queue_turn, device_turn, device_queue_turn}
+use Rattle.vd_model.specs.History.{History, deeds_of, outcome, needs_session, needs_bus, is_kept, needs_unkept, disk_of, dev_turn, queue_turn, device_turn, device_queue_turn}
 use Rattle.vd_laws.specs.Runs.{acts_of, IsMoment}
-use Rattle.vd_laws.proofs.Kept.{name_is, granted, raw_granted, control_granted, if_done_either, control_does}
-use Rattle.vd_laws.proofs.Histories.{own_same, own_other}
+use Rattle.vd_laws.proofs.IsolationLaw.{name_is, granted, raw_granted, control_granted, if_done_either, control_does}
+use Rattle.vd_laws.proofs.Histories.{acts_of_device_same, acts_of_device_other}
 use Rattle.vd_ring_laws.specs.ChainLaw.{ChainLaw}
 use Rattle.vd_ring_laws.specs.PositionLaw.{PositionLaw}
 use Rattle.vd_ring_laws.proofs.Mild.{Mild, refuse_mild, nodes_mild, drivers_mild, walk_mild, execute_mild}
@@ -56,18 +56,18 @@ opened_mild x made done (node.Ioctl number bytes) = by (ioctl_of number bytes) w
 opened_mild x made done step = node_mild made done step
 
 pub dev_mild : (x : Setting) (made : Creation) (s : Seen) (step : DevStep) → Mild (dev_turn x made s step)
-dev_mild x made s (line.Node step) = refuse_mild (given (not (opens step) && not (is_open s.acts)) Badf) (open_node_turn x made s.acts step) (opened_mild x made s.acts step)
-dev_mild x made s (line.Area step) = refuse_mild (given (not (is_open s.acts)) Badf) (lift Node (area_turn x s.acts step)) (nodes_mild (area_turn x s.acts step).acts)
+dev_mild x made s (line.Node step) = refuse_mild (refusal_if (not (opens step) && not (is_open s.acts)) Badf) (open_node_turn x made s.acts step) (opened_mild x made s.acts step)
+dev_mild x made s (line.Area step) = refuse_mild (refusal_if (not (is_open s.acts)) Badf) (lift Node (area_turn x s.acts step)) (nodes_mild (area_turn x s.acts step).acts)
 dev_mild x made s (line.Bus step) = bus_mild made s.now s.acts step
 dev_mild x made s (line.Driver step) =
-    refuse_mild (given (not (is_attached s.acts)) Nodev) (free_turn made s.acts step (lift Driver (driver_turn x s.acts step)))
-    (refuse_mild (given (is_kept made s.acts step) Busy) (lift Driver (driver_turn x s.acts step)) (drivers_mild (driver_turn x s.acts step).acts))
+    refuse_mild (refusal_if (not (is_attached s.acts)) Nodev) (needs_unkept made s.acts step (lift Driver (driver_turn x s.acts step)))
+    (refuse_mild (refusal_if (is_kept made s.acts step) Busy) (lift Driver (driver_turn x s.acts step)) (drivers_mild (driver_turn x s.acts step).acts))
 
-refused_fair : (done : List Act) (o : Option Errno) (turn : Turn Act) → Fair done → Fair (turn.acts ++ done) → Fair ((refuse o turn).acts ++ done)
-refused_fair done None turn fair h = h
-refused_fair done (Some errno) turn fair h = fair
+refusal_turn_fair : (done : List Act) (o : Option Errno) (turn : Turn Act) → Fair done → Fair (turn.acts ++ done) → Fair ((refuse o turn).acts ++ done)
+refusal_turn_fair done None turn fair h = h
+refusal_turn_fair done (Some errno) turn fair h = fair
 
-there_fair : (done : List Act) (turn : Creation → Turn Act) (o : Option Creation) → Fair done → ((made : Creation) → Fair ((turn made).acts ++ done)) → Fair ((option_map_or turn o (refused Nodev)).acts ++ done)
+there_fair : (done : List Act) (turn : Creation → Turn Act) (o : Option Creation) → Fair done → ((made : Creation) → Fair ((turn made).acts ++ done)) → Fair ((option_map_or turn o (refusal_turn Nodev)).acts ++ done)
 there_fair done turn None fair h = fair
 there_fair done turn (Some made) fair h = h made
 
@@ -76,10 +76,10 @@ module _ (x : Setting) (s : Seen) (fair : Fair s.acts) where
   mild turn e = mild_fair turn.acts s.acts e fair
 
   session : (turn : Turn Act) → Fair (turn.acts ++ s.acts) → Fair ((needs_session s.acts turn).acts ++ s.acts)
-  session turn h = refused_fair s.acts (given (not (is_open s.acts)) Badf) turn fair h
+  session turn h = refusal_turn_fair s.acts (refusal_if (not (is_open s.acts)) Badf) turn fair h
 
   placed : (turn : Turn Act) → Fair (turn.acts ++ s.acts) → Fair ((needs_bus s.acts turn).acts ++ s.acts)
-  placed turn h = refused_fair s.acts (given (not (is_attached s.acts)) Nodev) turn fair h
+  placed turn h = refusal_turn_fair s.acts (refusal_if (not (is_attached s.acts)) Nodev) turn fair h
 
   queue_fair : (made : Creation) (name : List ℕ) (failed : Bool) (step : QueueStep) → Fair ((queue_turn x made name s failed step).acts ++ s.acts)
   queue_fair made name failed (queue.Walk q head) = session (walk_turn x made s.acts q head) (mild (walk_turn x made s.acts q head) (walk_mild x made s.acts q head))
@@ -103,15 +103,15 @@ module _ (x : Setting) (s : Seen) (fair : Fair s.acts) where
 -- ---- a history
 
 abbrev AllFair : List Deed → Type 0
-AllFair done = (d : List ℕ) → Fair (own d done)
+AllFair done = (d : List ℕ) → Fair (acts_of_device d done)
 
-turn_fair : (name : List ℕ) (turn : Turn Act) (done : List Deed) → Fair (turn.acts ++ own name done) → AllFair done → AllFair (map (On name) turn.acts ++ done)
+turn_fair : (name : List ℕ) (turn : Turn Act) (done : List Deed) → Fair (turn.acts ++ acts_of_device name done) → AllFair done → AllFair (map (On name) turn.acts ++ done)
 turn_fair name turn done h all d = by (bytes_eq d name) refl where
-  by : (b : Bool) → bytes_eq d name ≡ b → Fair (own d (map (On name) turn.acts ++ done))
-  by true e = subst (λ n. Fair (own n (map (On name) turn.acts ++ done))) (sym (name_is d name e)) (subst Fair (sym (own_same name turn.acts done)) h)
-  by false e = subst Fair (sym (own_other d name turn.acts done e)) (all d)
+  by : (b : Bool) → bytes_eq d name ≡ b → Fair (acts_of_device d (map (On name) turn.acts ++ done))
+  by true e = subst (λ n. Fair (acts_of_device n (map (On name) turn.acts ++ done))) (sym (name_is d name e)) (subst Fair (sym (acts_of_device_same name turn.acts done)) h)
+  by false e = subst Fair (sym (acts_of_device_other d name turn.acts done e)) (all d)
 
-made_fair : (d : List ℕ) (done : List Deed) (b : Bool) → Fair (own d done) → Fair (cond b [] (own d done))
+made_fair : (d : List ℕ) (done : List Deed) (b : Bool) → Fair (acts_of_device d done) → Fair (cond b [] (acts_of_device d done))
 made_fair d done true h = tt
 made_fair d done false h = h
 
@@ -147,8 +147,8 @@ control_fair x step done all =
 
 step_fair : (x : Setting) (done : List Deed) (step : Step) (failed : Bool) → AllFair done → AllFair ((outcome x done step failed).deeds ++ done)
 step_fair x done (Control step) failed all = control_fair x step done all
-step_fair x done (Device name step) failed all = turn_fair name (device_turn x (seen x name done) step) done (device_fair x (seen x name done) (all name) step) all
-step_fair x done (Queue name step) failed all = turn_fair name (device_queue_turn x name (seen x name done) failed step) done (device_queue_fair x (seen x name done) (all name) name failed step) all
+step_fair x done (Device name step) failed all = turn_fair name (device_turn x (device_view x name done) step) done (device_fair x (device_view x name done) (all name) step) all
+step_fair x done (Queue name step) failed all = turn_fair name (device_queue_turn x name (device_view x name done) failed step) done (device_queue_fair x (device_view x name done) (all name) name failed step) all
 
 all_fair : (x : Setting) (h : History) → AllFair (deeds_of x h)
 unfolding deeds_of
@@ -158,7 +158,7 @@ all_fair x (entry ∷ before) = step_fair x (deeds_of x before) entry.step entry
 pub fair_after : (x : Setting) (h : History) (d : List ℕ) → Fair (acts_of x h d)
 fair_after x h d = all_fair x h d
 
-moment_fair : (x : Setting) (h : History) (d : List ℕ) (acts : List Act) → IsMoment x h d acts → Fair acts
+pub moment_fair : (x : Setting) (h : History) (d : List ℕ) (acts : List Act) → IsMoment x h d acts → Fair acts
 moment_fair x h d acts m = earlier_fair m.0 acts (subst Fair m.1 (fair_after x h d))
 
 pub position_law : (x : Setting) (h : History) → PositionLaw x h

@@ -3,13 +3,13 @@ use Rattle.std.proofs.Common.{◌≡◌, ℕ, ◌+◌, Bool, true, false, refl, 
 use Rattle.vd_model.specs.Acts.{Act, Node, State, Queue, Closed, Fetched, Finished, state_acts}
 use Rattle.vd_model.specs.State.{Cleared, Ready_set, Num_set, Addr_set, is_ready}
 use Rattle.vd_model.specs.Queues.{before_first, fetches, finishes, in_hand}
-use Rattle.vd_ring_laws.specs.PositionLaw.{hands}
+use Rattle.vd_ring_laws.specs.PositionLaw.{requests_in_hand}
 use Rattle.vd_ring_laws.proofs.Fair.{Fair}
 
 pub record Position (acts : List Act) (q : ℕ) : Type 0 where
   pub ready : is_some (before_first acts q) ≡ true → is_ready (state_acts acts) q ≡ true
   pub there : is_some (in_hand acts q) ≡ true → is_some (before_first acts q) ≡ true
-  pub counted : fetches acts q ≡ finishes acts q + hands acts q
+  pub counted : fetches acts q ≡ finishes acts q + requests_in_hand acts q
   pub fetched : (earlier : List Act) → in_hand acts q ≡ Some earlier → is_ready (state_acts earlier) q ≡ true
 
 some_first : (o : Option (List Act)) (acts : List Act) → is_some (cond (is_some o) o (Some acts)) ≡ true
@@ -61,13 +61,13 @@ module _ (acts : List Act) (q : ℕ) (p : Position acts q) where
   ended_position act true keeps e f g h = record {
     ready = λ i. (let j : false ≡ true = subst (λ o. is_some o ≡ true) e i in cc);
     there = λ i. (let j : false ≡ true = subst (λ o. is_some o ≡ true) f i in cc);
-    counted = g ∙ sym (ap (λ n. n + hands (act ∷ acts) q) h ∙ ap (λ o. 0 + cond (is_some o) 1 0) f);
+    counted = g ∙ sym (ap (λ n. n + requests_in_hand (act ∷ acts) q) h ∙ ap (λ o. 0 + cond (is_some o) 1 0) f);
     fetched = λ earlier i. cc;
   }
   ended_position act false keeps e f g h = record {
     ready = λ i. keeps refl (p.ready (subst (λ o. is_some o ≡ true) e i));
     there = λ i. subst (λ o. is_some o ≡ true) (sym e) (p.there (subst (λ o. is_some o ≡ true) f i));
-    counted = g ∙ p.counted ∙ sym (ap (λ n. n + hands (act ∷ acts) q) h ∙ ap (λ o. finishes acts q + cond (is_some o) 1 0) f);
+    counted = g ∙ p.counted ∙ sym (ap (λ n. n + requests_in_hand (act ∷ acts) q) h ∙ ap (λ o. finishes acts q + cond (is_some o) 1 0) f);
     fetched = λ earlier i. p.fetched earlier (sym f ∙ i);
   }
 

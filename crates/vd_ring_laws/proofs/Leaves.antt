@@ -9,22 +9,22 @@ use Rattle.vd_model.specs.declared.parts.Chain.{Chain}
 use Rattle.vd_model.specs.declared.queue.RingPlace.{RingPlace}
 use Rattle.vd_model.specs.Setting.{Setting}
 use Rattle.vd_model.specs.Creation.{Creation}
-use Rattle.vd_model.specs.Acts.{Act, Added, Queue, Chain_reclaimed, Fetched, Finished, state_acts, Streaming}
+use Rattle.vd_model.specs.Acts.{Act, AddedChain, Queue, Chain_reclaimed, Fetched, Finished, state_acts, Streaming}
 use Rattle.vd_model.specs.State.{is_ready}
 use Rattle.vd_model.specs.Memory.{Memory, read}
-use Rattle.vd_model.specs.Trace.{Ending, whole, faulty, missing, start_of, ending_of}
-use Rattle.vd_model.specs.Queues.{Ring, ring_of, out, published_out, in_hand, fetches, executed, Executed_as, reclaimed, published, free}
+use Rattle.vd_model.specs.Trace.{Ending, whole, faulty, missing, trace_start, ending_of}
+use Rattle.vd_model.specs.Queues.{Ring, ring_of, chains_out, published_chains_out, in_hand, fetches, execution_of, Execution, reclaimed_count, published_count, free_descriptors}
 use Rattle.vd_model.specs.Rings.{number16, available_index_at, available_slot_at, available_event_at, used_element_at, used_index_at, minus16, next16}
-use Rattle.vd_model.specs.Turn.{Turn, refuse, refused, given}
+use Rattle.vd_model.specs.Turn.{Turn, refuse, refusal_turn, refusal_if}
 use Rattle.vd_model.specs.BusTurns.{is_missing}
-use Rattle.vd_model.specs.DaemonTurns.{daemon_memory, queue_place, has_indirect, has_event_idx, chain_or, read_or, first_used, moved, readable_bytes, event_puts, event_or, fetched_turn, fetch_chain, fetch_at, fetch_from, is_idle, fetch_turn, Hand, hand, used_position, unwritable_or, deciding_field, finish_puts, finish_hand, finish_turn}
-use Rattle.vd_model.specs.RingTurns.{on_ring, is_full, asked_by, want_refusal, made_len, needed, part_wants, table_wants, placed, submitted, submit_turn, number_at, used_event_puts, completed, reclaimed_turn, poll_turn, ring_made, ring_turn, is_ring_size, ring_bytes}
+use Rattle.vd_model.specs.DaemonTurns.{daemon_memory, queue_place, has_indirect, has_event_idx, chain_or, read_or, first_used, index_after, readable_bytes, event_puts, event_or, fetched_turn, fetch_chain, fetch_at, fetch_from, is_idle, fetch_turn, Hand, hand, used_position, unwritable_or, deciding_field, finish_puts, finish_hand, finish_turn}
+use Rattle.vd_model.specs.RingTurns.{on_ring, is_full, asked_by, want_refusal, made_len, needed_descriptors, part_wants, table_wants, placed_mappings, submitted_turn, submit_turn, number_at, used_event_puts, completed_turn, reclaimed_turn, poll_turn, made_ring_turn, ring_turn, is_ring_size, ring_bytes}
 use Rattle.vd_laws.specs.Among.{Among}
 use Rattle.vd_laws.proofs.Refusals.{not_given}
 use Rattle.vd_num.specs.Field.{field_at}
 use Rattle.vd_model.specs.declared.step.SubmitForm.{SubmitForm}
-use Rattle.vd_model.specs.Live.{buffers, buffered, maps}
-use Rattle.vd_model.specs.Place.{taken, place_of}
+use Rattle.vd_model.specs.Live.{buffers, buffers_len, maps}
+use Rattle.vd_model.specs.Place.{taken_slots, place_of}
 use Rattle.vd_model.specs.Puts.{bus_bytes}
 use Rattle.vd_model.specs.DriverTurns.{buffer_limit}
 use Rattle.vd_laws.proofs.Lists.{found}
@@ -57,7 +57,7 @@ module _ (P : List Act → Type 0) (none : P []) where
   chain_is (faulty fault) turn h = none
   chain_is (missing at) turn h = none
 
-  pub option_is : {X : Type 0} (turn : X → Turn Act) (o : Option X) (errno : Errno) → ((y : X) → o ≡ Some y → Is (turn y)) → Is (option_map_or turn o (refused errno))
+  pub option_is : {X : Type 0} (turn : X → Turn Act) (o : Option X) (errno : Errno) → ((y : X) → o ≡ Some y → Is (turn y)) → Is (option_map_or turn o (refusal_turn errno))
   option_is turn None errno h = none
   option_is turn (Some y) errno h = h y refl
 
@@ -81,22 +81,22 @@ module _ (P : List Act → Type 0) (none : P []) where
       fetch_at_is : (place : RingPlace) (position : ℕ) → Is (fetch_at x done q place position)
       fetch_at_is place position =
           read_is (number16 (daemon_memory x done) (available_slot_at place position)) _ (λ head.
-          chain_is (ending_of (start_of place head (has_indirect done)) (daemon_memory x done)) _ (λ chain. fetch_chain_is place position chain))
+          chain_is (ending_of (trace_start place head (has_indirect done)) (daemon_memory x done)) _ (λ chain. fetch_chain_is place position chain))
 
       fetch_from_is : (place : RingPlace) (position : ℕ) → Is (fetch_from x done q place position)
       fetch_from_is place position =
           read_is (number16 (daemon_memory x done) (available_index_at place)) _ (λ found.
-          either_is (nat_lt place.size (minus16 found position)) (record { answer = answer.Ahead found position; acts = [] }) (refuse (given (found == position) Again) (fetch_at x done q place position)) none
-          (refuse_is (given (found == position) Again) (fetch_at x done q place position) (λ e. fetch_at_is place position)))
+          either_is (nat_lt place.size (minus16 found position)) (record { answer = answer.Ahead found position; acts = [] }) (refuse (refusal_if (found == position) Again) (fetch_at x done q place position)) none
+          (refuse_is (refusal_if (found == position) Again) (fetch_at x done q place position) (λ e. fetch_at_is place position)))
 
     pub fetch_is : (in_hand done q ≡ None → is_ready (state_acts done) q ≡ true → (place : RingPlace) (position : ℕ) (chain : Chain) (bytes : List ℕ) → P (event_puts done place (next16 position) ++ Queue (Fetched q) ∷ []))
         → P (fetch_turn x made done q).acts
     fetch_is leaf =
-        refuse_is (given (is_idle made done q) Inval) _ (λ e.
-        refuse_is (given (is_some (in_hand done q)) Busy) _ (λ f.
+        refuse_is (refusal_if (is_idle made done q) Inval) _ (λ e.
+        refuse_is (refusal_if (is_some (in_hand done q)) Busy) _ (λ f.
         read_is (first_used x done q) _ (λ used.
         fetch_from_is (leaf (no_hand (in_hand done q) (not_given _ Busy f)) (is_busy_not (is_missing made q) (is_ready (state_acts done) q) ((queue_place done q).size == 0) (not_given _ Inval e)))
-        (queue_place done q) (moved (fetches done q) used))))
+        (queue_place done q) (index_after (fetches done q) used))))
 
     unwritable_is : (m : Memory) (parts : List Part) (turn : Turn Act) → Is turn → Is (unwritable_or m parts turn)
     unwritable_is m [] turn h = h
@@ -105,7 +105,7 @@ module _ (P : List Act → Type 0) (none : P []) where
         either_is part.writable (read_or (read m part.at part.len) (λ bytes. unwritable_or m parts turn)) (unwritable_or m parts turn)
         (read_is (read m part.at part.len) (λ bytes. unwritable_or m parts turn) (λ bytes. rest)) rest
 
-    finish_hand_is : (place : RingPlace) (used : ℕ) (h : Hand) (end : Executed_as) → P (Queue (Finished q) ∷ finish_puts place used h end) → Is (finish_hand x done q place used h end)
+    finish_hand_is : (place : RingPlace) (used : ℕ) (h : Hand) (end : Execution) → P (Queue (Finished q) ∷ finish_puts place used h end) → Is (finish_hand x done q place used h end)
     finish_hand_is place used h end last =
         unwritable_is (daemon_memory x done) h.parts _
         (read_is (read (daemon_memory x done) (used_element_at place used) 8) _ (λ element.
@@ -113,54 +113,54 @@ module _ (P : List Act → Type 0) (none : P []) where
         read_is (read (daemon_memory x done) (deciding_field done place) 2) _ (λ field.
         read_is (number16 (daemon_memory x (finish_puts place used h end ++ done)) (deciding_field done place)) _ (λ value. last)))))
 
-    pub finish_is : ((earlier : List Act) → in_hand done q ≡ Some earlier → (end : Executed_as) → executed done q ≡ Some end
+    pub finish_is : ((earlier : List Act) → in_hand done q ≡ Some earlier → (end : Execution) → execution_of done q ≡ Some end
         → P (Queue (Finished q) ∷ finish_puts (queue_place done q) (used_position x done q) (hand x earlier q) end)) → P (finish_turn x made done q).acts
     finish_is leaf =
-        refuse_is (given (is_missing made q) Inval) _ (λ e.
+        refuse_is (refusal_if (is_missing made q) Inval) _ (λ e.
         option_is _ (in_hand done q) Noent (λ earlier f.
-        option_is _ (executed done q) Noent (λ end g.
+        option_is _ (execution_of done q) Noent (λ end g.
         finish_hand_is (queue_place done q) (used_position x done q) (hand x earlier q) end (leaf earlier f end g))))
 
     -- ---- the driver
 
     pub on_ring_is : (turn : Ring → Turn Act) → ((ring : Ring) → ring_of done q ≡ Some ring → Is (turn ring)) → Is (on_ring made done q turn)
-    on_ring_is turn h = refuse_is (given (is_missing made q) Inval) _ (λ e. option_is turn (ring_of done q) Noent h)
+    on_ring_is turn h = refuse_is (refusal_if (is_missing made q) Inval) _ (λ e. option_is turn (ring_of done q) Noent h)
 
-    pub ring_is : (size : ℕ) → ((slot : ℕ) → P (ring_made done q size slot).acts) → P (ring_turn x made done q size).acts
+    pub ring_is : (size : ℕ) → ((slot : ℕ) → P (made_ring_turn done q size slot).acts) → P (ring_turn x made done q size).acts
     ring_is size leaf =
-        refuse_is (given (is_missing made q) Inval) _ (λ e.
-        refuse_is (given (not (is_ring_size size)) Inval) _ (λ f.
-        refuse_is (given (is_some (ring_of done q)) Exist) _ (λ g.
-        option_is _ (place_of (taken done) (pages_of (ring_bytes size)) x.bounce x.iova) Nospc (λ slot h. leaf slot))))
+        refuse_is (refusal_if (is_missing made q) Inval) _ (λ e.
+        refuse_is (refusal_if (not (is_ring_size size)) Inval) _ (λ f.
+        refuse_is (refusal_if (is_some (ring_of done q)) Exist) _ (λ g.
+        option_is _ (place_of (taken_slots done) (pages_of (ring_bytes size)) x.bounce x.iova) Nospc (λ slot h. leaf slot))))
 
     pub submit_is : (asked : SubmitForm)
-        → ((ring : Ring) → ring_of done q ≡ Some ring → is_full ring.place.size (out done q) (needed (has_indirect done) (asked_by asked)) ≡ false → (ms : List Streaming)
-        → P (submitted x done q ring (has_indirect done) (asked_by asked) ms (take (needed (has_indirect done) (asked_by asked)) (free ring.place.size (out done q)))).acts)
+        → ((ring : Ring) → ring_of done q ≡ Some ring → is_full ring.place.size (chains_out done q) (needed_descriptors (has_indirect done) (asked_by asked)) ≡ false → (ms : List Streaming)
+        → P (submitted_turn x done q ring (has_indirect done) (asked_by asked) ms (take (needed_descriptors (has_indirect done) (asked_by asked)) (free_descriptors ring.place.size (chains_out done q)))).acts)
         → P (submit_turn x made done q asked).acts
     submit_is asked leaf = on_ring_is _ (λ ring e.
         let indirect = has_indirect done in
         let a = asked_by asked in
         refuse_is (want_refusal made done a.kind a.want) _ (λ f.
-        refuse_is (given (nat_lt buffer_limit (buffered done + made_len indirect a)) Nospc) _ (λ g.
-        refuse_is (given (is_full ring.place.size (out done q) (needed indirect a)) Nospc) _ (λ h.
-        option_is _ (placed x (taken done) (maps done) (part_wants (buffers done) a ++ table_wants indirect (buffers done) a)) Nospc (λ ms i.
+        refuse_is (refusal_if (nat_lt buffer_limit (buffers_len done + made_len indirect a)) Nospc) _ (λ g.
+        refuse_is (refusal_if (is_full ring.place.size (chains_out done q) (needed_descriptors indirect a)) Nospc) _ (λ h.
+        option_is _ (placed_mappings x (taken_slots done) (maps done) (part_wants (buffers done) a ++ table_wants indirect (buffers done) a)) Nospc (λ ms i.
         leaf ring e (not_given _ Nospc h) ms)))))
 
-    module _ (leaf : (r : RingPlace) (chain : Added) → Among chain (published_out done q) → (len : ℕ)
-        → P (completed x done (Queue (Chain_reclaimed q chain.head) ∷ used_event_puts done r (reclaimed done q + 1)) chain len).acts) where
+    module _ (leaf : (r : RingPlace) (chain : AddedChain) → Among chain (published_chains_out done q) → (len : ℕ)
+        → P (completed_turn x done (Queue (Chain_reclaimed q chain.head) ∷ used_event_puts done r (reclaimed_count done q + 1)) chain len).acts) where
       reclaimed_is : (r : RingPlace) (id len : ℕ) → Is (reclaimed_turn x done q r id len)
-      reclaimed_is r id len = by (find (λ chain. chain.head == id) (published_out done q)) refl where
-        by : (o : Option Added) → find (λ chain. chain.head == id) (published_out done q) ≡ o
-            → Is (option_map_or (λ chain. completed x done (Queue (Chain_reclaimed q chain.head) ∷ used_event_puts done r (reclaimed done q + 1)) chain len) o (record { answer = answer.BadId id; acts = [] }))
+      reclaimed_is r id len = by (find (λ chain. chain.head == id) (published_chains_out done q)) refl where
+        by : (o : Option AddedChain) → find (λ chain. chain.head == id) (published_chains_out done q) ≡ o
+            → Is (option_map_or (λ chain. completed_turn x done (Queue (Chain_reclaimed q chain.head) ∷ used_event_puts done r (reclaimed_count done q + 1)) chain len) o (record { answer = answer.BadId id; acts = [] }))
         by None e = none
-        by (Some chain) e = leaf r chain (found (λ chain. chain.head == id) chain (published_out done q) e) len
+        by (Some chain) e = leaf r chain (found (λ chain. chain.head == id) chain (published_chains_out done q) e) len
 
       pub poll_is : P (poll_turn x made done q).acts
       poll_is = on_ring_is _ (λ ring e.
           let used = number_at x done (used_index_at ring.place) in
-          refuse_is (given (used == reclaimed done q % 65536) Again) _ (λ f.
-          either_is (nat_lt (length (published_out done q)) (minus16 used (reclaimed done q % 65536))) (record { answer = answer.UsedAhead used (published done q % 65536); acts = [] })
+          refuse_is (refusal_if (used == reclaimed_count done q % 65536) Again) _ (λ f.
+          either_is (nat_lt (length (published_chains_out done q)) (minus16 used (reclaimed_count done q % 65536))) (record { answer = answer.UsedAhead used (published_count done q % 65536); acts = [] })
           (reclaimed_turn x done q ring.place
-          (field_at 4 (bus_bytes x.per_page done (used_element_at ring.place (reclaimed done q)) 8) 0)
-          (field_at 4 (bus_bytes x.per_page done (used_element_at ring.place (reclaimed done q)) 8) 4)) none
+          (field_at 4 (bus_bytes x.per_page done (used_element_at ring.place (reclaimed_count done q)) 8) 0)
+          (field_at 4 (bus_bytes x.per_page done (used_element_at ring.place (reclaimed_count done q)) 8) 4)) none
           (reclaimed_is ring.place _ _)))

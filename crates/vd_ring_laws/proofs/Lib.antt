@@ -1,5 +1,6 @@
 pub mod Spans
-pub mod Instances
+pub mod CalmRuns
+pub mod CalmInstances
 pub mod Drivers
 pub mod Mild
 pub mod Nodes

@@ -9,7 +9,7 @@ use Rattle.vd_num.specs.declared.errno.Errno.{Errno}
 use Rattle.vd_model.specs.declared.parts.Chain.{Chain}
 use Rattle.vd_model.specs.Setting.{Setting}
 use Rattle.vd_model.specs.Creation.{Creation}
-use Rattle.vd_model.specs.Acts.{Act, NodeAct, DriverAct, Stored, Executed, Node, Driver, Queue, Disk}
+use Rattle.vd_model.specs.Acts.{Act, NodeAct, DriverAct, Stored, Executed, Node, Driver, Queue, Disk_act}
 use Rattle.vd_model.specs.Trace.{Ending, whole, faulty, missing}
 use Rattle.vd_model.specs.Turn.{Turn, refuse}
 use Rattle.vd_model.specs.Block as block
@@ -84,14 +84,14 @@ chain_mild (missing at) turn h = refl
 pub walk_mild : (x : Setting) (made : Creation) (done : List Act) (q head : ℕ) → Mild (daemon.walk_turn x made done q head)
 walk_mild x made done q head = search (refuse_mild, chain_mild)
 
-stored_mild : (b : block.Block) (result : block.Result_of) → are_mild (daemon.stored b result) ≡ true
+stored_mild : (b : block.Block) (result : block.RequestResult) → are_mild (daemon.store_acts b result) ≡ true
 stored_mild b result = by result.stores where
-  by : (c : Bool) → are_mild (if c then Disk (Stored (512 * b.sector) b.payload) ∷ [] else []) ≡ true
+  by : (c : Bool) → are_mild (if c then Disk_act (Stored (512 * b.sector) b.payload) ∷ [] else []) ≡ true
   by true = refl
   by false = refl
 
-executed_mild : (q : ℕ) (b : block.Block) (result : block.Result_of) → Mild (daemon.executed_turn q b result)
-executed_mild q b result = append_mild (daemon.stored b result) (Queue (Executed q result.status result.bytes) ∷ []) (stored_mild b result) refl
+executed_mild : (q : ℕ) (b : block.Block) (result : block.RequestResult) → Mild (daemon.executed_turn q b result)
+executed_mild q b result = append_mild (daemon.store_acts b result) (Queue (Executed q result.status result.bytes) ∷ []) (stored_mild b result) refl
 
 pub execute_mild : (x : Setting) (made : Creation) (disk : block.Disk) (failed : Bool) (done : List Act) (q : ℕ) → Mild (daemon.execute_turn x made disk failed done q)
 execute_mild x made disk failed done q = search (refuse_mild, option_mild, executed_mild)

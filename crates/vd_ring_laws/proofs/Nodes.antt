@@ -21,11 +21,11 @@ use Rattle.vd_model.specs.declared.step.NodeStep.TheVariants as node
 use Rattle.vd_model.specs.Creation.{Creation}
 use Rattle.vd_model.specs.Acts.{Act, Node, Message_act, State, Closed, message_acts}
 use Rattle.vd_model.specs.State.{Status_set, Kicks_taken, Cleared}
-use Rattle.vd_model.specs.Messages.{Took, Lost, Received, is_broken, told, next}
-use Rattle.vd_model.specs.Live.{Registration, registered}
-use Rattle.vd_model.specs.Turn.{Turn, refuse, refused}
-use Rattle.vd_model.specs.BusTurns.{done_with, asks_reset, taken, take_turn, send_turn, reset_turn, attached_turn, bus_turn}
-use Rattle.vd_model.specs.NodeTurns.{ended, received_as, response_turn, body_items, plain_turn}
+use Rattle.vd_model.specs.Messages.{Took, Lost, Received, is_broken, message_told, next_message}
+use Rattle.vd_model.specs.Live.{Registration, registration_of}
+use Rattle.vd_model.specs.Turn.{Turn, refuse, refusal_turn, done_with}
+use Rattle.vd_model.specs.BusTurns.{asks_reset, message_end_acts, take_turn, send_turn, reset_turn, attached_turn, bus_turn}
+use Rattle.vd_model.specs.NodeTurns.{registration_end, received_as, response_turn, body_items, plain_turn}
 use Rattle.vd_ring_laws.proofs.Mild.{is_mild}
 
 -- no act of a turn fetches a request or finishes one
@@ -46,8 +46,8 @@ plain_append (a ∷ first) more e f =
 
 -- ---- the bus
 
-taken_mild : (id : ℕ) (b : Body) (more : List Act) → list_all is_mild more ≡ true → list_all is_mild (taken id b more) ≡ true
-taken_mild id b more e = by (asks_reset b) where
+message_end_acts_mild : (id : ℕ) (b : Body) (more : List Act) → list_all is_mild more ≡ true → list_all is_mild (message_end_acts id b more) ≡ true
+message_end_acts_mild id b more e = by (asks_reset b) where
   by : (c : Bool) → list_all is_mild ((if c then State Cleared ∷ [] else more) ++ Message_act (Took id) ∷ []) ≡ true
   by true = refl
   by false = plain_append more (Message_act (Took id) ∷ []) e refl
@@ -55,11 +55,11 @@ taken_mild id b more e = by (asks_reset b) where
 take_mild : (id : ℕ) (t : TakeAnswer) → IsMild (take_turn id t)
 take_mild id end.Pending = refl
 take_mild id end.Unknown = refl
-take_mild id (end.Done (body.Status value) avail) = taken_mild id (body.Status value) (State (Status_set value) ∷ []) refl
+take_mild id (end.Done (body.Status value) avail) = message_end_acts_mild id (body.Status value) (State (Status_set value) ∷ []) refl
 take_mild id (end.Done (body.VqState index) avail) = refl
 take_mild id (end.Done (body.Iotlb range) avail) = refl
-take_mild id (end.FailedByReply b result) = taken_mild id b [] refl
-take_mild id (end.FailedByTimeout b deadline now) = taken_mild id b [] refl
+take_mild id (end.FailedByReply b result) = message_end_acts_mild id b [] refl
+take_mild id (end.FailedByTimeout b deadline now) = message_end_acts_mild id b [] refl
 
 reset_mild : (now : ℕ) (done : List Act) → IsMild (reset_turn now done)
 reset_mild now done = by (is_broken (message_acts done)) where
@@ -85,24 +85,24 @@ attached_mild made now done (bus.Callback on flag) = search refuse_mild
 attached_mild made now done (bus.Irqs on) = search refuse_mild
 attached_mild made now done (bus.GetConfig offset len) = search refuse_mild
 attached_mild made now done (bus.Timeout seconds) = refl
-attached_mild made now done (bus.Take id) = take_mild id (told (message_acts done) id)
+attached_mild made now done (bus.Take id) = take_mild id (message_told (message_acts done) id)
 
 pub bus_mild : (made : Creation) (now : ℕ) (done : List Act) (step : BusStep) → IsMild (bus_turn made now done step)
 bus_mild made now done step = search (refuse_mild, attached_mild)
 
 -- ---- the node
 
-close_mild : (o : Option Registration) → list_all is_mild (Message_act Lost ∷ Node Closed ∷ ended o) ≡ true
+close_mild : (o : Option Registration) → list_all is_mild (Message_act Lost ∷ Node Closed ∷ registration_end o) ≡ true
 close_mild None = refl
 close_mild (Some r) = refl
 
 received_mild : (items : Message → List Item) (done : List Act) → IsMild (received_as items done)
-received_mild items done = by (next (message_acts done)) where
-  by : (o : Option Message) → IsMild (option_map_or (λ m. done_with (items m) (Message_act (Received m.id) ∷ [])) o (refused Again))
+received_mild items done = by (next_message (message_acts done)) where
+  by : (o : Option Message) → IsMild (option_map_or (λ m. done_with (items m) (Message_act (Received m.id) ∷ [])) o (refusal_turn Again))
   by None = refl
   by (Some m) = refl
 
-kicks_mild : (q : ℕ) (o : Option ℕ) → IsMild (option_map_or (λ count. done_with (Number count ∷ []) (State (Kicks_taken q) ∷ [])) o (refused Noent))
+kicks_mild : (q : ℕ) (o : Option ℕ) → IsMild (option_map_or (λ count. done_with (Number count ∷ []) (State (Kicks_taken q) ∷ [])) o (refusal_turn Noent))
 kicks_mild q None = refl
 kicks_mild q (Some count) = refl
 
@@ -112,7 +112,7 @@ response_mild done _ = refl
 
 pub node_mild : (made : Creation) (done : List Act) (step : NodeStep) → IsMild (plain_turn made done step)
 node_mild made done node.Open = search refuse_mild
-node_mild made done node.Close = close_mild (registered done)
+node_mild made done node.Close = close_mild (registration_of done)
 node_mild made done node.Features = refl
 node_mild made done (node.SetConfig offset bytes) = search refuse_mild
 node_mild made done node.ConfigIrq = search refuse_mild

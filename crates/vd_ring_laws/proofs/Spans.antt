@@ -7,10 +7,10 @@ use Rattle.vd_model.specs.Setting.{Setting}
 use Rattle.vd_model.specs.Acts.{Act, Ring_made, Ring_dropped}
 use Rattle.vd_model.specs.Acts as act
 use Rattle.vd_model.specs.Queues.{Ring, ring_of}
-use Rattle.vd_model.specs.Deeds.{seen}
+use Rattle.vd_model.specs.Deeds.{device_view}
 use Rattle.vd_model.specs.History.{Entry, History, deeds_of, device_turn, device_queue_turn}
 use Rattle.vd_laws.specs.Runs.{acts_of}
-use Rattle.vd_laws.proofs.Turns.{own_on}
+use Rattle.vd_laws.proofs.Turns.{acts_of_device_on}
 
 -- ---- lines on devices
 
@@ -31,8 +31,8 @@ unfolding deeds_of
 line_adds x d h entry is = by entry.step is where
   by : (step : Step) → IsLine step → Adds x d (record { step = step; failed = entry.failed } ∷ h) h
   by (Control step) i = absurd i
-  by (Device name step) i = let turn = device_turn x (seen x name (deeds_of x h)) step in ((if bytes_eq d name then turn.acts else []), own_on d name turn.acts (deeds_of x h))
-  by (Queue name step) i = let turn = device_queue_turn x name (seen x name (deeds_of x h)) entry.failed step in ((if bytes_eq d name then turn.acts else []), own_on d name turn.acts (deeds_of x h))
+  by (Device name step) i = let turn = device_turn x (device_view x name (deeds_of x h)) step in ((if bytes_eq d name then turn.acts else []), acts_of_device_on d name turn.acts (deeds_of x h))
+  by (Queue name step) i = let turn = device_queue_turn x name (device_view x name (deeds_of x h)) entry.failed step in ((if bytes_eq d name then turn.acts else []), acts_of_device_on d name turn.acts (deeds_of x h))
 
 pub lines_add : (x : Setting) (d : List ℕ) (h : History) (entries : List Entry) → AreLines entries → Adds x d (entries ++ h) h
 lines_add x d h [] are = ([], refl)

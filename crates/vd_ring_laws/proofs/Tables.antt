@@ -11,13 +11,13 @@ use Rattle.vd_model.specs.declared.memory.Origin.TheVariants.{Handed}
 use Rattle.vd_model.specs.Setting.{Setting, bounce_size}
 use Rattle.vd_model.specs.Acts.{Act, Driver, Driver_put}
 use Rattle.vd_model.specs.Memory.{Memory, read, byte_then}
-use Rattle.vd_model.specs.Puts.{Put, byte_in, shown}
+use Rattle.vd_model.specs.Puts.{Put, byte_in, shown_put}
 use Rattle.vd_model.specs.RingTurns.{descriptor_bytes, flags_of, descriptor_puts}
 use Rattle.vd_model.specs.History.{History}
 use Rattle.vd_laws.specs.Among.{Among}
 use Rattle.vd_laws.specs.Runs.{IsWhole}
 use Rattle.vd_laws.proofs.Sound.{earlier_legal}
-use Rattle.vd_laws.proofs.Turns.{own_legal}
+use Rattle.vd_laws.proofs.Turns.{acts_of_device_legal}
 use Rattle.vd_ring_laws.specs.ChainLaw.{AreDistinct}
 use Rattle.vd_ring_laws.specs.TraceLaw.{IsLinked}
 use Rattle.vd_ring_laws.specs.TableLaw.{shown_memory, TableLaw}
@@ -43,11 +43,11 @@ module _ (x : Setting) (whole : IsWhole x) (acts : List Act) (at : ℕ) (bytes :
       let first : byte_in bytes at (at + i) ≡ Some (get_or bytes i 0) =
       ap (λ b. cond b (slice_get bytes (at + i - at)) None) (le-leb at (at + i) (omega arith)) ∙ (ap (slice_get bytes) (let e : at + i - at ≡ i = omega arith in e) ∙ slice_get-get_or bytes i 0 low) in
       ap (λ p. Some p.byte) (high_shown x whole acts (at + i) (omega arith) (Driver (Driver_put at bytes)) legal ∙ now (byte_in bytes at (at + i)) (get_or bytes i 0) first) where
-        now : (o : Option ℕ) (v : ℕ) → o ≡ Some v → unwrap_or (text_of o) (shown x.per_page acts (at + i)) ≡ record { byte = v; origin = Handed None }
-        now o v e = ap (λ o. unwrap_or (text_of o) (shown x.per_page acts (at + i))) e
+        now : (o : Option ℕ) (v : ℕ) → o ≡ Some v → unwrap_or (text_of o) (shown_put x.per_page acts (at + i)) ≡ record { byte = v; origin = Handed None }
+        now o v e = ap (λ o. unwrap_or (text_of o) (shown_put x.per_page acts (at + i))) e
 
   put_kept : (a : ℕ) → bounce_size x ≤ a → is_within at (length bytes) a ≡ false → shown_memory x (Driver (Driver_put at bytes) ∷ acts) a ≡ shown_memory x acts a
-  put_kept a high out = ap (λ p. Some p.byte) (high_shown x whole acts a high (Driver (Driver_put at bytes)) legal ∙ ap (λ o. unwrap_or (text_of o) (shown x.per_page acts a)) (text_absent bytes at a out))
+  put_kept a high out = ap (λ p. Some p.byte) (high_shown x whole acts a high (Driver (Driver_put at bytes)) legal ∙ ap (λ o. unwrap_or (text_of o) (shown_put x.per_page acts a)) (text_absent bytes at a out))
 
 read_same : (m n : Memory) (at len : ℕ) → ((i : ℕ) → i < len → m (at + i) ≡ n (at + i)) → read m at len ≡ read n at len
 unfolding read
@@ -110,4 +110,4 @@ module _ (x : Setting) (whole : IsWhole x) (r : RingPlace) (high : bounce_size x
 
 pub table_law : (x : Setting) (h : History) → TableLaw x h
 table_law x h whole d r parts ds earlier m high distinct same some =
-    all_there x whole r high parts ds earlier (earlier_legal x m.0 (descriptor_puts r parts ds ++ earlier) (subst (Legal x) m.1 (own_legal x h d))) distinct same some
+    all_there x whole r high parts ds earlier (earlier_legal x m.0 (descriptor_puts r parts ds ++ earlier) (subst (Legal x) m.1 (acts_of_device_legal x h d))) distinct same some

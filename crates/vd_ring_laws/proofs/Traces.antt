@@ -14,7 +14,7 @@ use Rattle.vd_model.specs.declared.descriptor.Position.{Position}
 use Rattle.vd_model.specs.declared.queue.RingPlace.{RingPlace}
 use Rattle.vd_model.specs.Memory.{Memory, read}
 use Rattle.vd_model.specs.Raw.{little_bytes}
-use Rattle.vd_model.specs.Trace.{Start, start_of, Ending, whole, missing, chain_of, descriptor_of, descriptor_from, descriptor_at, is_indirect, has_next, is_writable, part_of, is_misshapen, breaks_order, is_long, leaves_table, is_among, first_kind, with_read, parts_at, fault_of, fault_by, fault_of_read, fault_at, after_read, next_position, ending_by, ending_at, ending_within, total_len}
+use Rattle.vd_model.specs.Trace.{TraceStart, trace_start, Ending, whole, missing, chain_of, descriptor_of, descriptor_from, descriptor_at, is_indirect, has_next, is_writable, descriptor_part, is_misshapen, breaks_order, is_long, leaves_table, is_among, first_kind, with_part_read, parts_at, fault_of, fault_by, fault_of_read, fault_at, after_read, next_position, ending_by, ending_at, ending_within, total_len}
 use Rattle.vd_model.specs.RingTurns.{descriptor_bytes, flags_of, first_of, is_out_of_order}
 use Rattle.vd_laws.specs.Among.{Among}
 use Rattle.vd_ring_laws.specs.ChainLaw.{AreDistinct}
@@ -83,8 +83,8 @@ module _ (m : Memory) (r : RingPlace) (head : ℕ) (negotiated : Bool) (inside :
   abbrev at_index : ℕ → Position
   at_index d = record { table = record { number = 0; at = r.desc; entries = r.size }; index = d }
 
-  abbrev from : Start
-  from = start_of r head negotiated
+  abbrev from : TraceStart
+  from = trace_start r head negotiated
 
   -- what is known of one position
   record IsAt (before : List Position) (done : List Part) (part : Part) (more : Bool) (d next : ℕ) : Type 0 where
@@ -107,9 +107,9 @@ module _ (m : Memory) (r : RingPlace) (head : ℕ) (negotiated : Bool) (inside :
 
     parts_now : parts_at m (at_index d ∷ before) ≡ done ++ part ∷ []
     parts_now =
-        ap (λ o. with_read (parts_at m before) o) found_at
-        ∙ (ap (λ l. with_read l (Ok (of_part part more next))) a.done_is
-        ∙ (ap (λ b. cond b done (done ++ part_of (of_part part more next) ∷ [])) (plain part.at part.len next more part.writable)
+        ap (λ o. with_part_read (parts_at m before) o) found_at
+        ∙ (ap (λ l. with_part_read l (Ok (of_part part more next))) a.done_is
+        ∙ (ap (λ b. cond b done (done ++ descriptor_part (of_part part more next) ∷ [])) (plain part.at part.len next more part.writable)
         ∙ ap (λ w. done ++ record { at = part.at; len = part.len; writable = w } ∷ []) (writable_is part.at part.len next more part.writable)))
 
     no_kind : first_kind negotiated done (is_among 0 next (at_index d ∷ before)) (at_index d) (of_part part more next) ≡ None
@@ -145,11 +145,11 @@ module _ (m : Memory) (r : RingPlace) (head : ℕ) (negotiated : Bool) (inside :
 
 -- ---- the whole
 
-ends_now : (n : ℕ) (s : Start) (m : Memory) (before : List Position) (p : Position) (end : Ending) → ending_at s m before p ≡ Some end → ending_within (suc n) s m before p ≡ Some end
+ends_now : (n : ℕ) (s : TraceStart) (m : Memory) (before : List Position) (p : Position) (end : Ending) → ending_at s m before p ≡ Some end → ending_within (suc n) s m before p ≡ Some end
 unfolding ending_within
 ends_now n s m before p end e = rw (ending_within, e) refl
 
-goes_on : (n : ℕ) (s : Start) (m : Memory) (before : List Position) (p next : Position) → ending_at s m before p ≡ None → next_position m p ≡ Some next → ending_within (suc n) s m before p ≡ ending_within n s m (p ∷ before) next
+goes_on : (n : ℕ) (s : TraceStart) (m : Memory) (before : List Position) (p next : Position) → ending_at s m before p ≡ None → next_position m p ≡ Some next → ending_within (suc n) s m before p ≡ ending_within n s m (p ∷ before) next
 unfolding ending_within
 goes_on n s m before p next e f = rw (ending_within, e, f) refl
 
@@ -205,12 +205,12 @@ module _ (m : Memory) (r : RingPlace) (head : ℕ) (negotiated : Bool) (inside :
   }
 
   chain_from : (n : ℕ) (before : List Position) (done parts : List Part) (ds : List ℕ) → length parts ≤ n → Rest before done parts ds
-      → ending_within n (start_of r head negotiated) m before (at_index m r head negotiated inside small ends (first_of ds)) ≡ Some (whole (chain_of head (done ++ parts)))
+      → ending_within n (trace_start r head negotiated) m before (at_index m r head negotiated inside small ends (first_of ds)) ≡ Some (whole (chain_of head (done ++ parts)))
   chain_from n before done [] ds le a = absurd a.linked
   chain_from n before done (part ∷ parts) [] le a = absurd a.linked
   chain_from zero before done (part ∷ parts) (d ∷ ds) le a = absurd (omega arith)
   chain_from (suc n) before done (part ∷ []) (d ∷ []) le a =
-      ends_now n (start_of r head negotiated) m before (at_index m r head negotiated inside small ends d) (whole (chain_of head (done ++ part ∷ [])))
+      ends_now n (trace_start r head negotiated) m before (at_index m r head negotiated inside small ends d) (whole (chain_of head (done ++ part ∷ [])))
       (ending_is m r head negotiated inside small ends before done part false d 0 (first_is before done part [] d [] false 0 a (omega arith) a.linked refl))
   chain_from (suc n) before done (part ∷ []) (d ∷ e ∷ ds) le a = absurd a.linked
   chain_from (suc n) before done (part ∷ next ∷ parts) (d ∷ []) le a = absurd a.linked
@@ -230,7 +230,7 @@ module _ (m : Memory) (r : RingPlace) (head : ℕ) (negotiated : Bool) (inside :
         done_is = parts_now m r head negotiated inside small ends before done part true d e is;
         fresh = fresh;
       } in
-      goes_on n (start_of r head negotiated) m before here (at_index m r head negotiated inside small ends e) (ending_is m r head negotiated inside small ends before done part true d e is) (next_is m r head negotiated inside small ends before done part true d e is)
+      goes_on n (trace_start r head negotiated) m before here (at_index m r head negotiated inside small ends e) (ending_is m r head negotiated inside small ends before done part true d e is) (next_is m r head negotiated inside small ends before done part true d e is)
       ∙ (chain_from n (here ∷ before) (done ++ part ∷ []) (next ∷ parts) (e ∷ ds) (omega arith) rest
       ∙ ap (λ l. Some (whole (chain_of head l))) (append_assoc done (part ∷ []) (next ∷ parts)))
 

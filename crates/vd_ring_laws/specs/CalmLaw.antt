@@ -2,11 +2,11 @@
 use Rattle.std.specs.Prelude.{ℕ, List, length, Some, ◌≡◌}
 use Rattle.vd_model.specs.Setting.{Setting}
 use Rattle.vd_model.specs.Acts.{Act}
-use Rattle.vd_model.specs.Queues.{Ring, ring_of, added}
+use Rattle.vd_model.specs.Queues.{Ring, ring_of, added_count}
 use Rattle.vd_model.specs.History.{History}
 use Rattle.vd_laws.specs.Runs.{acts_of}
-use Rattle.vd_laws.specs.Calm.{IsCalm}
-use Rattle.vd_laws.specs.BlockLaw.{placed}
+use Rattle.vd_ring_laws.specs.Calm.{IsCalm}
+use Rattle.vd_ring_laws.specs.Heads.{placed_heads}
 use Rattle.vd_ring_laws.specs.ChainLaw.{AreApart}
 
 -- a ring on which requests alone were placed
@@ -14,7 +14,7 @@ pub record HasRequests (acts : List Act) (q : ℕ) (ring : Ring) : Type 0 where
   -- those that are out are apart
   pub apart : AreApart acts q ring
   -- as many chains were added as requests were placed
-  pub counted : added acts q ≡ length (placed acts q)
+  pub counted : added_count acts q ≡ length (placed_heads acts q)
 
 -- on each ring of a calm history requests alone were placed
 abbrev pub CalmLaw : Setting → History → Type 0

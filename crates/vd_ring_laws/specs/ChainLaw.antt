@@ -1,8 +1,8 @@
 -- The chains that are out on a ring.
 use Rattle.std.specs.Prelude.{ℕ, ◌+◌, ◌≤◌, ◌<◌, List, [], ◌∷◌, length, map, Bool, true, IsTrue, nat_lt, ◌&&◌, ◌==◌, if◌then◌else◌, Some, ◌≡◌}
 use Rattle.vd_model.specs.Setting.{Setting}
-use Rattle.vd_model.specs.Acts.{Act, Queue, Added, Ring_made, Chain_added}
-use Rattle.vd_model.specs.Queues.{Ring, ring_of, added, reclaimed, out, published_out}
+use Rattle.vd_model.specs.Acts.{Act, Queue, AddedChain, Ring_made, Chain_added}
+use Rattle.vd_model.specs.Queues.{Ring, ring_of, added_count, reclaimed_count, chains_out, published_chains_out}
 use Rattle.vd_model.specs.History.{History}
 use Rattle.vd_laws.specs.Among.{Among}
 use Rattle.vd_laws.specs.Runs.{IsMoment}
@@ -16,7 +16,7 @@ have_descriptors (Queue (Ring_made k place region) ∷ acts) q = if k == q then 
 have_descriptors (_ ∷ acts) q = have_descriptors acts q
 
 -- the heads of some chains
-abbrev pub heads : List Added → List ℕ
+abbrev pub heads : List AddedChain → List ℕ
 heads chains = map (λ chain. chain.head) chains
 
 -- no number is twice in a list
@@ -27,15 +27,15 @@ AreDistinct (n ∷ ns) = (Among n ns → ⊥) × AreDistinct ns
 -- the chains of a ring that are out at a moment
 pub record AreApart (acts : List Act) (q : ℕ) (ring : Ring) : Type 0 where
   -- their heads differ
-  pub distinct : AreDistinct (heads (out acts q))
+  pub distinct : AreDistinct (heads (chains_out acts q))
   -- and are descriptors of the ring
-  pub low : (chain : Added) → Among chain (out acts q) → chain.head < ring.place.size
+  pub low : (chain : AddedChain) → Among chain (chains_out acts q) → chain.head < ring.place.size
   -- so there are no more of them than the ring has descriptors
-  pub fit : length (out acts q) ≤ ring.place.size
+  pub fit : length (chains_out acts q) ≤ ring.place.size
   -- each chain that was placed is out until it is reclaimed
-  pub counted : added acts q ≡ reclaimed acts q + length (out acts q)
+  pub counted : added_count acts q ≡ reclaimed_count acts q + length (chains_out acts q)
   -- and those that were published are among them
-  pub published : (chain : Added) → Among chain (published_out acts q) → Among chain (out acts q)
+  pub published : (chain : AddedChain) → Among chain (published_chains_out acts q) → Among chain (chains_out acts q)
 
 -- at each moment of a history, on a ring on which no chain without a descriptor was placed
 abbrev pub ChainLaw : Setting → History → Type 0

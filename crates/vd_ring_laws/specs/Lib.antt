@@ -1,4 +1,7 @@
-pub mod OrderInstances
+pub mod Calm
+pub mod Heads
+pub mod DiskRequest
+pub mod CalmInstances
 pub mod PositionLaw
 pub mod ChainLaw
 pub mod CalmLaw

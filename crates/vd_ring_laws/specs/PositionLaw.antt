@@ -8,8 +8,8 @@ use Rattle.vd_model.specs.History.{History}
 use Rattle.vd_laws.specs.Runs.{IsMoment}
 
 -- how many requests are in hand on a queue, one or none
-abbrev pub hands : List Act → ℕ → ℕ
-hands acts q = if is_some (in_hand acts q) then 1 else 0
+abbrev pub requests_in_hand : List Act → ℕ → ℕ
+requests_in_hand acts q = if is_some (in_hand acts q) then 1 else 0
 
 -- where a block daemon of any device is on its queues, at each moment of a history
 pub record PositionLaw (x : Setting) (h : History) : Type 0 where
@@ -18,6 +18,6 @@ pub record PositionLaw (x : Setting) (h : History) : Type 0 where
   -- while a request is in hand it has one
   pub there : (d : List ℕ) (acts : List Act) → IsMoment x h d acts → (q : ℕ) → IsTrue (is_some (in_hand acts q)) → IsTrue (is_some (before_first acts q))
   -- it finished as many requests as it fetched, but for the one in hand
-  pub counted : (d : List ℕ) (acts : List Act) → IsMoment x h d acts → (q : ℕ) → fetches acts q ≡ finishes acts q + hands acts q
+  pub counted : (d : List ℕ) (acts : List Act) → IsMoment x h d acts → (q : ℕ) → fetches acts q ≡ finishes acts q + requests_in_hand acts q
   -- a request is fetched from a ready queue, and while no other is in hand
   pub fetched : (d : List ℕ) (acts : List Act) → IsMoment x h d acts → (q : ℕ) (earlier : List Act) → in_hand acts q ≡ Some earlier → IsTrue (is_ready (state_acts earlier) q)

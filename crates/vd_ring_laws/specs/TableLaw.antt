@@ -5,7 +5,7 @@ use Rattle.vd_model.specs.declared.queue.RingPlace.{RingPlace}
 use Rattle.vd_model.specs.Setting.{Setting, bounce_size}
 use Rattle.vd_model.specs.Acts.{Act}
 use Rattle.vd_model.specs.Memory.{Memory}
-use Rattle.vd_model.specs.Puts.{shown}
+use Rattle.vd_model.specs.Puts.{shown_put}
 use Rattle.vd_model.specs.RingTurns.{descriptor_puts}
 use Rattle.vd_model.specs.History.{History}
 use Rattle.vd_laws.specs.Runs.{IsMoment, IsWhole}
@@ -14,7 +14,7 @@ use Rattle.vd_ring_laws.specs.TraceLaw.{IsLinked}
 
 -- the byte that is shown at each address
 abbrev pub shown_memory : Setting → List Act → Memory
-shown_memory x acts a = Some ((shown x.per_page acts a).byte)
+shown_memory x acts a = Some ((shown_put x.per_page acts a).byte)
 
 -- right after the puts of some parts at different descriptors of a table past bounce memory, the table has them
 abbrev pub TableLaw : Setting → History → Type 0

@@ -3,7 +3,7 @@ use Rattle.std.specs.Prelude.{ℕ, ◌+◌, ◌*◌, ◌^◌, ◌<◌, ◌≤◌
 use Rattle.vd_model.specs.declared.parts.Part.{Part}
 use Rattle.vd_model.specs.declared.queue.RingPlace.{RingPlace}
 use Rattle.vd_model.specs.Memory.{Memory, read}
-use Rattle.vd_model.specs.Trace.{start_of, whole, chain_of, total_len, ending_of}
+use Rattle.vd_model.specs.Trace.{trace_start, whole, chain_of, total_len, ending_of}
 use Rattle.vd_model.specs.RingTurns.{descriptor_bytes, flags_of, first_of, is_out_of_order}
 use Rattle.vd_laws.specs.Among.{Among}
 use Rattle.vd_ring_laws.specs.ChainLaw.{AreDistinct}
@@ -36,4 +36,4 @@ pub record IsWritten (m : Memory) (r : RingPlace) (parts : List Part) (ds : List
 -- what a driver wrote as a chain is traced as that chain
 abbrev pub TraceLaw : Memory → Type 0
 TraceLaw m = (r : RingPlace) (parts : List Part) (ds : List ℕ) (negotiated : Bool) → IsWritten m r parts ds
-    → ending_of (start_of r (first_of ds) negotiated) m ≡ whole (chain_of (first_of ds) parts)
+    → ending_of (trace_start r (first_of ds) negotiated) m ≡ whole (chain_of (first_of ds) parts)

@@ -3,8 +3,8 @@
 //! It stands on the model and its laws alone.
 #![tactic(auto)]
 
-mod order;
+mod rings;
 
-pub use order::{
-    calm_rings, chains_out, instances_of_order, positions, written_chains, written_tables,
+pub use rings::{
+    calm_rings, chains_out, instances_of_calm, positions, written_chains, written_tables,
 };

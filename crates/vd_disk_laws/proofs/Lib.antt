@@ -1,0 +1,10 @@
+pub mod LineDeeds
+pub mod EntryDeeds
+pub mod LastDeeds
+pub mod PollReports
+pub mod RequestOnce
+pub mod StayingOut
+pub mod FollowedChain
+pub mod PollAnswers
+pub mod BlockLaw
+pub mod BlockInstances

@@ -1,5 +1,0 @@
-use Rattle.vd_laws.proofs.Instances.{isolation_met}
-use Rattle.vd_laws.proofs.alone.instances_of_isolation.Goals as goal
-
-pub returns : goal.returns
-returns c = isolation_met

@@ -1,5 +1,0 @@
-use Rattle.vd_laws.proofs.Instances.{image_met}
-use Rattle.vd_laws.proofs.windows.instances_of_image.Goals as goal
-
-pub returns : goal.returns
-returns c = image_met

@@ -1,0 +1,16 @@
+pub mod Numbers
+pub mod Mappings
+pub mod FirmBytes
+pub mod StandingBytes
+pub mod RingLayout
+pub mod RingSizes
+pub mod BlockAnswers
+pub mod Wants
+pub mod RequestSource
+pub mod SameRing
+pub mod RingMemory
+pub mod TableTraces
+pub mod ChainTraces
+pub mod HandReads
+pub mod Unmaps
+pub mod Spreads

@@ -1,0 +1,3 @@
+pub mod FirmLaw
+pub mod IndirectLaw
+pub mod UnmapLaw

@@ -1,5 +1,0 @@
-use Rattle.vd_ring_laws.proofs.Calms.{calm_law}
-use Rattle.vd_ring_laws.proofs.order.calm_rings.Goals as goal
-
-pub returns : goal.returns
-returns c = calm_law

@@ -1,5 +1,0 @@
-use Rattle.vd_ring_laws.proofs.Tables.{table_law}
-use Rattle.vd_ring_laws.proofs.order.written_tables.Goals as goal
-
-pub returns : goal.returns
-returns c = table_law

@@ -1,0 +1,10 @@
+pub mod CalmRings
+pub mod RingSpares
+pub mod Positions
+pub mod Fetches
+pub mod EventFields
+pub mod PollTurns
+pub mod Finishes
+pub mod RingMakes
+pub mod ChainAdds
+pub mod RequestTables

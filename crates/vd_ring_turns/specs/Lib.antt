@@ -1,0 +1,2 @@
+pub mod FirstFetchLaw
+pub mod HandLaw

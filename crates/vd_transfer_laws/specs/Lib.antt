@@ -1,0 +1,2 @@
+pub mod TransferLaw
+pub mod TransferInstances
