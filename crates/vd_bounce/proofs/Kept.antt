@@ -1,11 +1,8 @@
 -- Rows of frames, and what calls leave to others.
-use Rattle.std.proofs.Common.{◌≡◌, ◌≢◌, ℕ, zero, suc, ◌+◌, ◌-◌, ◌*◌, ◌/◌, ◌%◌, ◌<◌, ◌≤◌, ◌⊎◌, inl, inr, refl, subst, ap, sym, ◌∙◌, arith, List, [], ◌∷◌, ◌++◌, length, true, false, Bool, ◌==◌, ◌&&◌, not, if◌then◌else◌, Option, Some, None, true≢false}
+use Rattle.std.proofs.Common.{◌≡◌, ◌≢◌, ℕ, zero, suc, ◌⊎◌, inl, inr, refl, ap, sym, ◌∙◌, arith, List, [], ◌∷◌, ◌++◌, length, true, false, ◌==◌, Option, Some, None}
 use Rattle.std.proofs.lemmas.Bool.Decides.{nat_tests, eqb_tells}
-use Rattle.std.proofs.lemmas.Grind.{common_steps}
-use Rattle.std.specs.List.{slice_index}
-use Rattle.vd_num.specs.Number.{is_within}
-use Rattle.vd_pool.specs.Memory.{Memory, is_out, byte_of, Writes, Gives}
-use Rattle.vd_bounce.specs.Frames.{frame_of, Holds, IsOther, Keeps}
+use Rattle.vd_pool.specs.Memory.{PoolMemory, Writes, Gives}
+use Rattle.vd_bounce.specs.Frames.{frame_of, Holds, Keeps}
 
 pub nat_tells : (a b : ℕ) → (a ≡ b) ⊎ (a ≢ b)
 nat_tells a b = elim (eqb_tells a b) [ inl h ↦ inl h.1 | inr h ↦ inr h.1 ]
@@ -16,10 +13,10 @@ differ a b ne = grind (arith, nat_tests)
 pub same_test : (a : ℕ) → (a == a) ≡ true
 same_test a = grind (arith, nat_tests)
 
-pub keeps_none : {frames : List (Option ℕ)} {m : Memory} → Holds frames m → Keeps frames frames m m
+pub keeps_none : {frames : List (Option ℕ)} {m : PoolMemory} → Holds frames m → Keeps frames frames m m
 keeps_none h = record { holds = h; size = refl; others = λ g o i. (o, i, λ j. refl) }
 
-pub keeps_more : {a b c : List (Option ℕ)} {k m n : Memory} → Keeps a b k m → Keeps b c m n → Keeps a c k n
+pub keeps_more : {a b c : List (Option ℕ)} {k m n : PoolMemory} → Keeps a b k m → Keeps b c m n → Keeps a c k n
 keeps_more first next = record {
   holds = next.holds;
   size = next.size ∙ first.size;
@@ -28,7 +25,7 @@ keeps_more first next = record {
 
 -- ---- a write in a frame of the row
 
-pub wrote_kept : {frames : List (Option ℕ)} {m n : Memory} (page f at : ℕ) (text : List ℕ) → Holds frames m → frame_of frames page ≡ Some f → Writes f at text m n → Keeps frames frames m n
+pub wrote_kept : {frames : List (Option ℕ)} {m n : PoolMemory} (page f at : ℕ) (text : List ℕ) → Holds frames m → frame_of frames page ≡ Some f → Writes f at text m n → Keeps frames frames m n
 wrote_kept page f at text h e w = record {
   holds = record { out = λ p g there. w.out g ∙ h.out p g there; apart = h.apart };
   size = w.size;
@@ -53,7 +50,7 @@ last_frame : (xs : List (Option ℕ)) (x : Option ℕ) → frame_of (xs ++ x ∷
 last_frame [] x = refl
 last_frame (y ∷ ys) x = last_frame ys x
 
-pub popped_none : (xs : List (Option ℕ)) (m : Memory) → Holds (xs ++ None ∷ []) m → Keeps (xs ++ None ∷ []) xs m m
+pub popped_none : (xs : List (Option ℕ)) (m : PoolMemory) → Holds (xs ++ None ∷ []) m → Keeps (xs ++ None ∷ []) xs m m
 popped_none xs m h = record {
   holds = record {
     out = λ p f e. h.out p f (front_frame xs None p f e);
@@ -63,7 +60,7 @@ popped_none xs m h = record {
   others = λ g o i. (o, (λ p e. i p (front_frame xs None p g e)), λ j. refl);
 }
 
-pub popped_some : (xs : List (Option ℕ)) (f : ℕ) (m n : Memory) → Holds (xs ++ Some f ∷ []) m → Gives f m n → Keeps (xs ++ Some f ∷ []) xs m n
+pub popped_some : (xs : List (Option ℕ)) (f : ℕ) (m n : PoolMemory) → Holds (xs ++ Some f ∷ []) m → Gives f m n → Keeps (xs ++ Some f ∷ []) xs m n
 popped_some xs f m n h w = record {
   holds = record {
     out = λ p g e.

@@ -1,5 +1,5 @@
 -- Pages of some size, and ranges of bytes within one.
-use Rattle.std.proofs.Common.{◌≡◌, ◌≢◌, ℕ, zero, suc, ◌+◌, ◌-◌, ◌*◌, ◌/◌, ◌%◌, ◌<◌, ◌≤◌, ◌⊎◌, inl, inr, refl, subst, ap, sym, ◌∙◌, arith, true, false, Bool, ◌==◌, ◌&&◌, if◌then◌else◌, List, length, take, drop, length-take, length-drop, get_or-take, get_or-drop, true≢false}
+use Rattle.std.proofs.Common.{◌≡◌, ◌≢◌, ℕ, suc, ◌+◌, ◌-◌, ◌*◌, ◌/◌, ◌%◌, ◌<◌, ◌≤◌, ◌⊎◌, inl, inr, refl, ap, sym, ◌∙◌, arith, true, false, Bool, ◌&&◌, if◌then◌else◌, List, length, take, drop, length-take, length-drop, get_or-take, get_or-drop, true≢false}
 use Rattle.std.proofs.lemmas.Bool.Decides.{nat_tests, leb_tells}
 use Rattle.std.proofs.Math.Nat.{mul-le-mul_left, mul_comm}
 use Rattle.std.specs.List.{slice_index}

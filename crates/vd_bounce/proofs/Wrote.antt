@@ -1,14 +1,14 @@
 -- The bytes of a row after a write in the frame of one page.
-use Rattle.std.proofs.Common.{◌≡◌, ◌≢◌, ℕ, ◌+◌, ◌-◌, ◌*◌, ◌/◌, ◌%◌, ◌<◌, ◌≤◌, ◌⊎◌, inl, inr, refl, subst, ap, sym, ◌∙◌, arith, List, length, true, false, Bool, ◌==◌, ◌&&◌, if◌then◌else◌, Option, Some, None}
+use Rattle.std.proofs.Common.{◌≡◌, ◌≢◌, ℕ, ◌+◌, ◌-◌, ◌*◌, ◌/◌, ◌%◌, ◌<◌, ◌≤◌, ◌⊎◌, inl, inr, refl, ap, sym, ◌∙◌, List, length, true, false, ◌==◌, ◌&&◌, if◌then◌else◌, Option, Some, None}
 use Rattle.std.specs.Option.{option_map_or}
 use Rattle.std.specs.List.{slice_index}
 use Rattle.vd_num.specs.Number.{is_within}
-use Rattle.vd_pool.specs.Memory.{Memory, byte_of, Writes}
+use Rattle.vd_pool.specs.Memory.{PoolMemory, byte_of, Writes}
 use Rattle.vd_bounce.specs.Frames.{frame_of, frame_byte, Holds}
 use Rattle.vd_bounce.proofs.Kept.{nat_tells, differ, same_test}
 use Rattle.vd_bounce.proofs.Pages.{page_is, index_is, in_page, off_page, same_far}
 
-pub wrote_bytes : (size : ℕ) (frames : List (Option ℕ)) (m n : Memory) (at f : ℕ) (text : List ℕ) → 0 < size → Holds frames m → frame_of frames (at / size) ≡ Some f → at % size + length text ≤ size
+pub wrote_bytes : (size : ℕ) (frames : List (Option ℕ)) (m n : PoolMemory) (at f : ℕ) (text : List ℕ) → 0 < size → Holds frames m → frame_of frames (at / size) ≡ Some f → at % size + length text ≤ size
     → Writes f (at % size) text m n
     → (a : ℕ) → frame_byte size frames n a ≡ (if is_within at (length text) a then slice_index text (a - at) else frame_byte size frames m a)
 wrote_bytes size frames m n at f text some h e fits w a = by_frame (frame_of frames (a / size)) refl where
@@ -33,7 +33,7 @@ wrote_bytes size frames m n at f text some h e fits w a = by_frame (frame_of fra
         ∙ sym (ap (λ b. if b then slice_index text (a - at) else byte_of m g (a % size)) (off_page size at (length text) a some fits other))
 
 -- a byte of a page is its frame's
-pub byte_in : (size : ℕ) (frames : List (Option ℕ)) (m : Memory) (page f a i : ℕ) → 0 < size → size * page ≤ a → a < size * page + size → frame_of frames page ≡ Some f → i ≡ a - size * page
+pub byte_in : (size : ℕ) (frames : List (Option ℕ)) (m : PoolMemory) (page f a i : ℕ) → 0 < size → size * page ≤ a → a < size * page + size → frame_of frames page ≡ Some f → i ≡ a - size * page
     → frame_byte size frames m a ≡ byte_of m f i
 byte_in size frames m page f a i some low high there at =
     ap (λ p. option_map_or (λ g. byte_of m g (a % size)) (frame_of frames p) 0) (page_is size page a some low high)

@@ -3,14 +3,15 @@
 ghost use Rattle.std.specs.Prelude.{◌≡◌, ◌+◌, ◌-◌, ◌*◌, ◌/◌, ◌<◌, ◌≤◌, ◌^◌, ◌↔◌, ◌==◌, ◌||◌, ◌&&◌, not, is_some, ℕ, List, [], Bool, length, slice_index, slice_index_or, if◌then◌else◌, IfOk, OnOk, OnErr, None, Some, unwrap_or, replicate, take, drop, true, false};
 ghost use Rattle.std.specs.Option.{option_map};
 ghost use Rattle.vd_num.specs.Number.{is_within};
-ghost use Rattle.vd_pool.specs.Memory.{Memory};
+ghost use Rattle.vd_pool.specs.Memory.{PoolMemory};
 ghost use Rattle.vd_bounce.specs.Frames.{frame_of, Holds, Keeps};
-ghost use Rattle.vd_bounce.specs.Bounce.{Bounce, Place, Iova, Area, page_size, bounce_size, value, home, over, is_present, IsThere, SameShape};
+ghost use Rattle.vd_bounce.specs.Bounce.{Bounce, Place, Iova, Area, page_size, bounce_len, value, home_place, over, is_page_present, IsThere, SameShape};
 
 use crate::rows;
 use std::alloc::{AllocError, Global};
 use std::marker::Model;
-use vd_pool::{Frame, Pool, SLOT};
+use vd_num::SLOT_SIZE;
+use vd_pool::{Frame, Pool};
 
 /// Why no area is made.
 #[derive(Clone, Copy, Debug, PartialEq, Eq)]
@@ -46,7 +47,7 @@ impl BounceMap {
         requires some { 0 < per_page }
         requires few { per_page ≤ 16 }
         ensures new { IfOk result (λ b. b ≡ record { frames = replicate pages None; area = None; user = None; per_page = per_page }) }
-        ensures holds { IfOk result (λ b. (m : Memory) → Holds b.frames m) }
+        ensures holds { IfOk result (λ b. (m : PoolMemory) → Holds b.frames m) }
     {
         Ok(BounceMap {
             alloc,
@@ -74,9 +75,26 @@ impl BounceMap {
 
     /// Whether a page is present.
     pub fn present(&self, page: u32) -> bool
-        ensures { result ≡ is_present self.now page }
+        ensures { result ≡ is_page_present self.now page }
     {
-        let page = page as usize;
+        self.has(page as usize)
+    }
+
+    /// Whether the bytes from an address on lie in one page, which is present. Where the answer is no, they may
+    /// lie in several.
+    pub fn is_in_page(&self, at: u64, len: usize) -> bool
+        ensures there { result ≡ true → IsThere self.now at len }
+        ensures end { result ≡ true → at + len ≤ bounce_len self.now }
+    {
+        let size = SLOT_SIZE as usize * self.per_page as usize;
+        let at = at as usize;
+        len <= size - rows::offset_in(size, at) && self.has(rows::page_of(size, at))
+    }
+
+    /// Whether there is a page of this number, and it is present.
+    fn has(&self, page: usize) -> bool
+        ensures { result ≡ is_page_present self.now page }
+    {
         page < self.frames.len() && (self.user.is_some() || self.frames[page].is_some())
     }
 
@@ -94,7 +112,7 @@ impl BounceMap {
         requires spare { 0 < pool.old.spare }
         ensures kept { Keeps self.old.frames self.new.frames pool.old pool.new }
         ensures bytes { (x : Place) → value self.new pool.new x ≡ value self.old pool.old x }
-        ensures present { (p : ℕ) → p < length self.old.frames → is_present self.new p ≡ ((p == page) || is_present self.old p) }
+        ensures present { (p : ℕ) → p < length self.old.frames → is_page_present self.new p ≡ ((p == page) || is_page_present self.old p) }
         ensures same { SameShape self.old self.new }
         ensures spare { pool.old.spare ≤ pool.new.spare + 1 }
     {
@@ -109,8 +127,8 @@ impl BounceMap {
         requires size { pool.old.per_page ≡ self.old.per_page }
         requires there { IsThere self.old at (length bytes.now) }
         ensures kept { Keeps self.old.frames self.new.frames pool.old pool.new }
-        ensures bytes { (x : Place) → value self.new pool.new x ≡ over (home self.old at) bytes.now x (value self.old pool.old x) }
-        ensures present { (p : ℕ) → is_present self.new p ≡ is_present self.old p }
+        ensures bytes { (x : Place) → value self.new pool.new x ≡ over (home_place self.old at) bytes.now x (value self.old pool.old x) }
+        ensures present { (p : ℕ) → is_page_present self.new p ≡ is_page_present self.old p }
         ensures frames { self.new.frames ≡ self.old.frames }
         ensures spare { pool.new.spare ≡ pool.old.spare }
         ensures same { SameShape self.old self.new }
@@ -118,7 +136,7 @@ impl BounceMap {
         if bytes.is_empty() {
             return;
         }
-        let size = SLOT * self.per_page as usize;
+        let size = SLOT_SIZE as usize * self.per_page as usize;
         match self.user {
             None => rows::put(&self.frames, pool, size, at as usize, bytes),
             Some(user) => match &mut self.area {
@@ -133,12 +151,12 @@ impl BounceMap {
         requires holds { Holds self.now.frames pool.now }
         requires size { pool.now.per_page ≡ self.now.per_page }
         requires there { IsThere self.now at (length out.old) }
-        ensures { (i : ℕ) → i < length out.old → slice_index out.new i ≡ value self.now pool.now (home self.now (at + i)) }
+        ensures { (i : ℕ) → i < length out.old → slice_index out.new i ≡ value self.now pool.now (home_place self.now (at + i)) }
     {
         if out.is_empty() {
             return;
         }
-        let size = SLOT * self.per_page as usize;
+        let size = SLOT_SIZE as usize * self.per_page as usize;
         match self.user {
             None => rows::get(&self.frames, pool, size, at as usize, out),
             Some(user) => match &self.area {
@@ -187,7 +205,7 @@ impl BounceMap {
     /// Writes bytes into the area, which are bounce bytes too while they are registered.
     pub fn area_put(&mut self, offset: u64, bytes: &[u8])
         requires { offset + length bytes.now ≤ length (unwrap_or self.old.area []) }
-        ensures bytes { (m : Memory) (x : Place) → value self.new m x ≡ over (Area offset) bytes.now x (value self.old m x) }
+        ensures bytes { (m : PoolMemory) (x : Place) → value self.new m x ≡ over (Area offset) bytes.now x (value self.old m x) }
         ensures frames { self.new.frames ≡ self.old.frames }
         ensures same { SameShape self.old self.new }
     {
@@ -230,19 +248,19 @@ impl BounceMap {
         requires size { pool.old.per_page ≡ self.old.per_page }
         requires free { self.old.user ≡ None }
         requires area { is_some self.old.area ≡ true }
-        requires room { offset + bounce_size self.old ≤ length (unwrap_or self.old.area []) }
+        requires room { offset + bounce_len self.old ≤ length (unwrap_or self.old.area []) }
         requires each { length in_use.now ≡ length self.old.frames }
-        requires used { (p : ℕ) → slice_index_or in_use.now p false ≡ true → is_present self.old p ≡ true }
+        requires used { (p : ℕ) → slice_index_or in_use.now p false ≡ true → is_page_present self.old p ≡ true }
         ensures kept { Keeps self.old.frames self.new.frames pool.old pool.new }
         ensures bounce { (a : ℕ) → value self.new pool.new (Iova a)
             ≡ (if slice_index_or in_use.now (a / page_size self.old) false then value self.old pool.old (Iova a) else 0) }
         ensures area { (o : ℕ) → value self.new pool.new (Area o)
-            ≡ (if is_within offset (bounce_size self.old) o && slice_index_or in_use.now ((o - offset) / page_size self.old) false
+            ≡ (if is_within offset (bounce_len self.old) o && slice_index_or in_use.now ((o - offset) / page_size self.old) false
             then value self.old pool.old (Iova (o - offset)) else value self.old pool.old (Area o)) }
         ensures aside { (p : ℕ) → is_some (frame_of self.new.frames p) ≡ slice_index_or in_use.now p false }
         ensures same { SameShape (record self.old { user = Some offset }) self.new }
     {
-        let size = SLOT * self.per_page as usize;
+        let size = SLOT_SIZE as usize * self.per_page as usize;
         match &mut self.area {
             Some(area) => rows::adopt(&mut self.frames, pool, size, area, offset as usize, in_use),
             None => unreachable!(),
@@ -260,12 +278,12 @@ impl BounceMap {
         requires used { (p : ℕ) → slice_index_or in_use.now p false ≡ true → is_some (frame_of self.old.frames p) ≡ true }
         ensures kept { Keeps self.old.frames self.new.frames pool.old pool.new }
         ensures bounce { (a : ℕ) → value self.new pool.new (Iova a)
-            ≡ (if slice_index_or in_use.now (a / page_size self.old) false then value self.old pool.old (home self.old a) else 0) }
+            ≡ (if slice_index_or in_use.now (a / page_size self.old) false then value self.old pool.old (home_place self.old a) else 0) }
         ensures area { (o : ℕ) → value self.new pool.new (Area o) ≡ value self.old pool.old (Area o) }
-        ensures present { (p : ℕ) → is_present self.new p ≡ slice_index_or in_use.now p false }
+        ensures present { (p : ℕ) → is_page_present self.new p ≡ slice_index_or in_use.now p false }
         ensures same { SameShape (record self.old { user = None }) self.new }
     {
-        let size = SLOT * self.per_page as usize;
+        let size = SLOT_SIZE as usize * self.per_page as usize;
         if let Some(user) = self.user {
             match &self.area {
                 Some(area) => rows::release(&mut self.frames, pool, size, area, user, in_use),

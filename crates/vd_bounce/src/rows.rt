@@ -1,12 +1,41 @@
 //! Rows of pages, each with a frame or none: their bytes one after another.
 
-ghost use Rattle.std.specs.Prelude.{◌≡◌, ◌+◌, ◌-◌, ◌*◌, ◌/◌, ◌<◌, ◌≤◌, ◌^◌, ◌==◌, ◌||◌, ◌&&◌, not, is_some, ℕ, length, slice_index, if◌then◌else◌, IfOk, None, replicate, slice_index_or, true, false};
+ghost use Rattle.std.specs.Prelude.{◌≡◌, ◌+◌, ◌-◌, ◌*◌, ◌/◌, ◌%◌, ◌<◌, ◌≤◌, ◌^◌, ◌==◌, ◌||◌, ◌&&◌, not, is_some, ℕ, length, slice_index, if◌then◌else◌, IfOk, None, replicate, slice_index_or, true, false};
 ghost use Rattle.vd_num.specs.Number.{is_within};
 ghost use Rattle.vd_pool.specs.Memory.{frame_size, is_out, byte_of};
 ghost use Rattle.vd_bounce.specs.Frames.{frame_of, frame_byte, Holds, Keeps, Reaches};
 
 use std::alloc::{AllocError, Global};
+use vd_num::SLOT_SIZE;
 use vd_pool::{Frame, Pool};
+
+/// The page of an address, where pages have `size` bytes. A page of 1 or 16 slots is found by a shift.
+pub fn page_of(size: usize, at: usize) -> usize
+    requires { 0 < size }
+    ensures { result ≡ at / size }
+{
+    if size == SLOT_SIZE as usize {
+        at / SLOT_SIZE as usize
+    } else if size == 16 * SLOT_SIZE as usize {
+        at / (16 * SLOT_SIZE as usize)
+    } else {
+        at / size
+    }
+}
+
+/// Where an address lies in its page.
+pub fn offset_in(size: usize, at: usize) -> usize
+    requires { 0 < size }
+    ensures { result ≡ at % size }
+{
+    if size == SLOT_SIZE as usize {
+        at % SLOT_SIZE as usize
+    } else if size == 16 * SLOT_SIZE as usize {
+        at % (16 * SLOT_SIZE as usize)
+    } else {
+        at % size
+    }
+}
 
 /// Writes bytes from an address on, a page at a time.
 pub fn put(frames: &[Option<Frame>], pool: &mut Pool, size: usize, at: usize, bytes: &[u8])
@@ -22,9 +51,9 @@ pub fn put(frames: &[Option<Frame>], pool: &mut Pool, size: usize, at: usize, by
 {
     let mut done = 0;
     while done < bytes.len() {
-        let from = (at + done) % size;
+        let from = offset_in(size, at + done);
         let n = (size - from).min(bytes.len() - done);
-        match &frames[(at + done) / size] {
+        match &frames[page_of(size, at + done)] {
             Some(frame) => pool.write(frame, from, &bytes[done..done + n]),
             None => unreachable!(),
         }
@@ -43,9 +72,9 @@ pub fn get(frames: &[Option<Frame>], pool: &Pool, size: usize, at: usize, out: &
 {
     let mut done = 0;
     while done < out.len() {
-        let from = (at + done) % size;
+        let from = offset_in(size, at + done);
         let n = (size - from).min(out.len() - done);
-        match &frames[(at + done) / size] {
+        match &frames[page_of(size, at + done)] {
             Some(frame) => read_part(pool, frame, from, out, done, n),
             None => unreachable!(),
         }

@@ -10,7 +10,7 @@ use Rattle.vd_model.specs.declared.memory.Want.{Want}
 use Rattle.vd_model.specs.Setting.{Setting}
 use Rattle.vd_model.specs.Acts.{Streaming}
 use Rattle.vd_model.specs.Place.{Slots, place_of, meets}
-use Rattle.vd_model.specs.RingTurns.{placed, placed_at}
+use Rattle.vd_model.specs.RingTurns.{placed_mappings, placed_mapping}
 use Rattle.vd_domain.specs.declared.booking.Booked.{Booked}
 use Rattle.vd_domain.specs.Held.{Holding, AreTaken}
 use Rattle.vd_domain.specs.declared.streaming.Bounced.{Bounced}
@@ -43,9 +43,9 @@ module _ (x : Setting) (low : Space) (made : ℕ) (holds : List Holding) (held :
       ap (λ k. place_of held n k x.bounce) per_page ∙ ap (λ k. place_of held n low.first k) bounce
       ∙ place_same held (taken_of low) n low.first low.«end» (λ s below above. seen s n below above ∙ sym (meets_are low made holds taken s n))
 
-  pub none_placed : (want : Want) (wants : List Want) → None ≡ place_of (taken_of low) (pages_of want.len) low.first low.«end» → placed x held made (want ∷ wants) ≡ None
+  pub none_placed : (want : Want) (wants : List Want) → None ≡ place_of (taken_of low) (pages_of want.len) low.first low.«end» → placed_mappings x held made (want ∷ wants) ≡ None
   none_placed want wants none =
-      ap (λ o. placed_at want made o (λ slot. placed x (held ++ record { start = slot; count = pages_of want.len } ∷ []) (made + 1) wants))
+      ap (λ o. placed_mapping want made o (λ slot. placed_mappings x (held ++ record { start = slot; count = pages_of want.len } ∷ []) (made + 1) wants))
       (place_seen (pages_of want.len) ∙ sym none)
 
   module _ (g : ℕ) (want : Want) (b : Booked) (next : Space) (given : IsGiven g low made want b next) (some : 0 < want.len) where
@@ -59,10 +59,10 @@ module _ (x : Setting) (low : Space) (made : ℕ) (holds : List Holding) (held :
         (seen start n (subst (λ k. k ≤ start) given.first low_end) (subst (λ k. start + n ≤ k) given.top high_end))
         ∙ sym (any_more (λ (h : Holding). meets start n (record { start = h.slot; count = h.count })) holds (holding_of want b ∷ []))
 
-    pub placed_next : (wants : List Want) → placed x held made (want ∷ wants)
-        ≡ option_map (λ ms. record { number = made; slot = b.slot; want = want } ∷ ms) (placed x (held ++ record { start = b.slot; count = pages_of want.len } ∷ []) (made + 1) wants)
+    pub placed_next : (wants : List Want) → placed_mappings x held made (want ∷ wants)
+        ≡ option_map (λ ms. record { number = made; slot = b.slot; want = want } ∷ ms) (placed_mappings x (held ++ record { start = b.slot; count = pages_of want.len } ∷ []) (made + 1) wants)
     placed_next wants =
-        ap (λ o. placed_at want made o (λ slot. placed x (held ++ record { start = slot; count = pages_of want.len } ∷ []) (made + 1) wants))
+        ap (λ o. placed_mapping want made o (λ slot. placed_mappings x (held ++ record { start = slot; count = pages_of want.len } ∷ []) (made + 1) wants))
         (place_seen (pages_of want.len) ∙ sym given.place)
 
 pub err_same : {A E : Type 0} {e f : E} → (let r : Result A E = Err e in r) ≡ Err f → e ≡ f
@@ -94,7 +94,7 @@ rest_some want wants e = by (want.len == 0) e where
 -- where each was given what it has, that is where they are placed
 pub all_placed : (x : Setting) (g : ℕ) (low after : Space) (made : ℕ) (holds : List Holding) (held : List Slots) (wants : List Want) (bs : List Booked)
     → x.per_page ≡ low.first → x.bounce ≡ low.«end» → AreTaken low made holds → IsSeen low holds held → list_any (λ (w : Want). w.len == 0) wants ≡ false
-    → AreGiven g low made wants bs after → placed x held made wants ≡ Some (streamings wants bs)
+    → AreGiven g low made wants bs after → placed_mappings x held made wants ≡ Some (streamings wants bs)
 all_placed x g low after made holds held [] [] pp bb taken seen none given = refl
 all_placed x g low after made holds held [] (b ∷ bs) pp bb taken seen none given = absurd given
 all_placed x g low after made holds held (want ∷ wants) [] pp bb taken seen none given = absurd given

@@ -7,16 +7,16 @@ use Rattle.std.proofs.lemmas.Bool.{eqb-true}
 use Rattle.std.proofs.lemmas.Bool.Decides.{nat_tests}
 use Rattle.std.proofs.lemmas.List.Elements.{All-weaker, All-cons, All-head, All-tail}
 use Rattle.vd_num.specs.Number.{is_within, pages_of}
-use Rattle.vd_pool.specs.Memory.{Memory}
+use Rattle.vd_pool.specs.Memory.{PoolMemory}
 use Rattle.vd_bounce.specs.Frames.{frame_of, Holds}
 use Rattle.vd_bounce.specs.Bounce as b
-use Rattle.vd_bounce.specs.Bounce.{Bounce, value, bounce_size, page_size, SameShape}
+use Rattle.vd_bounce.specs.Bounce.{Bounce, value, bounce_len, page_size, SameShape}
 use Rattle.vd_iova.specs.Space.{Space}
 use Rattle.vd_model.specs.Setting as model
 use Rattle.vd_model.specs.Setting.{Setting}
 use Rattle.vd_model.specs.Acts.{Act, Driver, Coherent, Region_made, Region_freed}
-use Rattle.vd_model.specs.Live.{live_regions, region_covers, registered}
-use Rattle.vd_model.specs.Puts.{Iova, Area, last_put, is_moved, address_of, address_put, zero_if}
+use Rattle.vd_model.specs.Live.{live_regions, region_covers, registration_of}
+use Rattle.vd_model.specs.Puts.{Iova, Area, last_put, is_moved, area_address, address_put, zero_if}
 use Rattle.vd_domain.specs.Held.{Held, IsFit, IsTaken, IsApart, AreTaken, Holding, region_holds, bounce_slots, has_slot, coherent_of}
 use Rattle.vd_domain.specs.Stands.{Stands, last_byte}
 use Rattle.vd_domain.proofs.Entries.{found_passes, mapped_fewer, mapped_found}
@@ -169,10 +169,10 @@ module _ (h : Held) (low high : Space) (uses : List ℕ) (fit : IsFit h low high
   shifted n slot base p le = grind (arith, nat_tests)
 
   -- the page of an address in coherent memory is one of the region's where the region covers the address
-  page_covers : (k : ℕ) → bounce_size h.bounce ≤ k → is_within (r.slot - bounce_slots h) (pages_of r.len) ((k - bounce_size h.bounce) / page_size h.shared) ≡ region_covers r k
+  page_covers : (k : ℕ) → bounce_len h.bounce ≤ k → is_within (r.slot - bounce_slots h) (pages_of r.len) ((k - bounce_len h.bounce) / page_size h.shared) ≡ region_covers r k
   page_covers k above =
-      ap (λ g. is_within (r.slot - bounce_slots h) (pages_of r.len) ((k - bounce_size h.bounce) / (4096 * g))) fit.slots
-      ∙ shifted (pages_of r.len) r.slot (bounce_slots h) ((k - bounce_size h.bounce) / 4096) begins
+      ap (λ g. is_within (r.slot - bounce_slots h) (pages_of r.len) ((k - bounce_len h.bounce) / (4096 * g))) fit.slots
+      ∙ shifted (pages_of r.len) r.slot (bounce_slots h) ((k - bounce_len h.bounce) / 4096) begins
       ∙ ap (λ q. is_within r.slot (pages_of r.len) q) slot where
         shift : (n a : ℕ) → 4096 * n ≤ a → n + (a - 4096 * n) / 4096 ≡ a / 4096
         shift n a le = omega arith
@@ -180,10 +180,10 @@ module _ (h : Held) (low high : Space) (uses : List ℕ) (fit : IsFit h low high
         size : 4096 * h.bounce.per_page * length h.bounce.frames ≡ 4096 * bounce_slots h
         size = omega arith
 
-        slot : bounce_slots h + (k - bounce_size h.bounce) / 4096 ≡ k / 4096
+        slot : bounce_slots h + (k - bounce_len h.bounce) / 4096 ≡ k / 4096
         slot = ap (λ n. bounce_slots h + (k - n) / 4096) size ∙ shift (bounce_slots h) k (omega arith)
 
-  pub off_low : (k : ℕ) → k < bounce_size h.bounce → region_covers r k ≡ false
+  pub off_low : (k : ℕ) → k < bounce_len h.bounce → region_covers r k ≡ false
   off_low k below =
       let size : 4096 * h.bounce.per_page * length h.bounce.frames ≡ 4096 * bounce_slots h = omega arith in
       let le = begins in
@@ -192,7 +192,7 @@ module _ (h : Held) (low high : Space) (uses : List ℕ) (fit : IsFit h low high
 
   -- ---- its pages have no frames any more
 
-  module _ (d : Bounce) (store : Memory) (same : SameShape h.shared d)
+  module _ (d : Bounce) (store : PoolMemory) (same : SameShape h.shared d)
       (frames : (p : ℕ) → is_some (frame_of d.frames p) ≡ (not (is_within (r.slot - bounce_slots h) (pages_of r.len) p) && is_some (frame_of h.shared.frames p)))
       (values : (k : ℕ) → value d store (b.Iova k) ≡ (if is_within (r.slot - bounce_slots h) (pages_of r.len) (k / page_size h.shared) then 0 else value h.shared h.store (b.Iova k))) where
     pub ended_fit : (after : Space) (made : ℕ) → Holds d.frames store → store.per_page ≡ h.store.per_page → Loses (region_holds r) high after → ((n : ℕ) → n < h.made → n ≢ a → n < made)
@@ -244,8 +244,8 @@ module _ (h : Held) (low high : Space) (uses : List ℕ) (fit : IsFit h low high
       by (Some f) e = absurd (true≢false (sym (ap is_some e) ∙ off))
 
     -- the bytes of the others stay
-    kept : (k : ℕ) → bounce_size h.bounce ≤ k → region_covers r k ≡ false → value d store (b.Iova (k - bounce_size h.bounce)) ≡ value h.shared h.store (b.Iova (k - bounce_size h.bounce))
-    kept k above off = values (k - bounce_size h.bounce) ∙ ap (λ t. if t then 0 else value h.shared h.store (b.Iova (k - bounce_size h.bounce))) (page_covers k above ∙ off)
+    kept : (k : ℕ) → bounce_len h.bounce ≤ k → region_covers r k ≡ false → value d store (b.Iova (k - bounce_len h.bounce)) ≡ value h.shared h.store (b.Iova (k - bounce_len h.bounce))
+    kept k above off = values (k - bounce_len h.bounce) ∙ ap (λ t. if t then 0 else value h.shared h.store (b.Iova (k - bounce_len h.bounce))) (page_covers k above ∙ off)
 
     left : (t u : Bool) → (not t && u) ≡ true → t ≡ false
     left true u e = absurd (true≢false (sym e))
@@ -255,7 +255,7 @@ module _ (h : Held) (low high : Space) (uses : List ℕ) (fit : IsFit h low high
     right true u e = absurd (true≢false (sym e))
     right false u e = e
 
-    pub freed : (x : Setting) (acts : List Act) (m : Memory) → Stands x acts h m → Stands x (Driver (Region_freed r) ∷ acts) (record h { shared = d; store = store; regions = others_of a h.regions }) m
+    pub freed : (x : Setting) (acts : List Act) (m : PoolMemory) → Stands x acts h m → Stands x (Driver (Region_freed r) ∷ acts) (record h { shared = d; store = store; regions = others_of a h.regions }) m
     freed x acts m s = record {
       bounce = s.bounce;
       iova = s.iova ∙ ap (λ n. bounce_slots h + n) (sym same.pages);
@@ -277,15 +277,15 @@ module _ (h : Held) (low high : Space) (uses : List ℕ) (fit : IsFit h low high
       held : others_of a h.regions ≡ others_of r.number (live_regions acts)
       held = ap (λ n. others_of n h.regions) (sym number_is) ∙ ap (others_of r.number) s.regions
 
-      high_part : (k : ℕ) → bounce_size h.bounce ≤ k → list_any (λ r. region_covers r k) (others_of r.number (live_regions acts)) ≡ true
-          → value d store (b.Iova (k - bounce_size h.bounce)) ≡ last_byte x acts (Iova k)
+      high_part : (k : ℕ) → bounce_len h.bounce ≤ k → list_any (λ r. region_covers r k) (others_of r.number (live_regions acts)) ≡ true
+          → value d store (b.Iova (k - bounce_len h.bounce)) ≡ last_byte x acts (Iova k)
       high_part k above covered =
           let both : (not (region_covers r k) && list_any (λ r. region_covers r k) h.regions) ≡ true = sym (slot_rest (k / 4096)) ∙ ap (list_any (λ r. region_covers r k)) held ∙ covered in
           let old : list_any (λ r. region_covers r k) (live_regions acts) ≡ true = ap (list_any (λ r. region_covers r k)) (sym s.regions) ∙ right (region_covers r k) (list_any (λ r. region_covers r k) h.regions) both in
           kept k above (left (region_covers r k) (list_any (λ r. region_covers r k) h.regions) both)
           ∙ ap (λ n. value h.shared h.store (b.Iova (k - n))) (sym (size_is x acts h m s)) ∙ s.shared k (subst (λ n. n ≤ k) (sym (size_is x acts h m s)) above) old
 
-    pub undone : (x : Setting) (acts : List Act) (m : Memory) → Stands x (Driver (Region_made r) ∷ acts) h m → Stands x acts (record h { shared = d; store = store; regions = others_of a h.regions; made = h.made - 1 }) m
+    pub undone : (x : Setting) (acts : List Act) (m : PoolMemory) → Stands x (Driver (Region_made r) ∷ acts) h m → Stands x acts (record h { shared = d; store = store; regions = others_of a h.regions; made = h.made - 1 }) m
     undone x acts m s = record {
       bounce = s.bounce;
       iova = s.iova ∙ ap (λ n. bounce_slots h + n) (sym same.pages);
@@ -306,7 +306,7 @@ module _ (h : Held) (low high : Space) (uses : List ℕ) (fit : IsFit h low high
       held : others_of a h.regions ≡ live_regions acts
       held = ap (others_of a) s.regions ∙ last_gone a (live_regions acts) r number_is (subst (λ (rs : List Coherent). AllPairs IsApart (map region_holds rs)) s.regions fit.regions.apart)
 
-      same_byte : (k : ℕ) → is_moved (registered acts) k ≡ false → region_covers r k ≡ false → last_byte x (Driver (Region_made r) ∷ acts) (Iova k) ≡ last_byte x acts (Iova k)
+      same_byte : (k : ℕ) → is_moved (registration_of acts) k ≡ false → region_covers r k ≡ false → last_byte x (Driver (Region_made r) ∷ acts) (Iova k) ≡ last_byte x acts (Iova k)
       same_byte k here off =
           ap (λ p. p.byte) ((driver_addressed x.per_page acts (Region_made r)).iova k here)
           ∙ put_or_byte (zero_if (region_covers r k)) (last_put x.per_page acts) (Iova k)
@@ -315,14 +315,14 @@ module _ (h : Held) (low high : Space) (uses : List ℕ) (fit : IsFit h low high
       same_area : (o : ℕ) → last_byte x (Driver (Region_made r) ∷ acts) (Area o) ≡ last_byte x acts (Area o)
       same_area o =
           ap (λ p. p.byte) ((driver_addressed x.per_page acts (Region_made r)).area o)
-          ∙ put_or_byte (option_and_then (address_put x.per_page (last_put x.per_page acts) acts (Driver (Region_made r))) (address_of (registered acts) o)) (last_put x.per_page acts) (Area o)
+          ∙ put_or_byte (option_and_then (address_put x.per_page (last_put x.per_page acts) acts (Driver (Region_made r))) (area_address (registration_of acts) o)) (last_put x.per_page acts) (Area o)
           ∙ by h.bounce.user refl where
             by : (u : Option ℕ) → h.bounce.user ≡ u
-                → or_byte (option_and_then (address_put x.per_page (last_put x.per_page acts) acts (Driver (Region_made r))) (address_of (registered acts) o)) (last_byte x acts (Area o)) ≡ last_byte x acts (Area o)
-            by None e = ap (λ r'. or_byte (option_and_then (address_put x.per_page (last_put x.per_page acts) acts (Driver (Region_made r))) (address_of r' o)) (last_byte x acts (Area o)))
+                → or_byte (option_and_then (address_put x.per_page (last_put x.per_page acts) acts (Driver (Region_made r))) (area_address (registration_of acts) o)) (last_byte x acts (Area o)) ≡ last_byte x acts (Area o)
+            by None e = ap (λ r'. or_byte (option_and_then (address_put x.per_page (last_put x.per_page acts) acts (Driver (Region_made r))) (area_address r' o)) (last_byte x acts (Area o)))
                 (free_of x (Driver (Region_made r) ∷ acts) h m s e)
             by (Some u) e =
-                ap (λ r'. or_byte (option_and_then (address_put x.per_page (last_put x.per_page acts) acts (Driver (Region_made r))) (address_of r' o)) (last_byte x acts (Area o)))
+                ap (λ r'. or_byte (option_and_then (address_put x.per_page (last_put x.per_page acts) acts (Driver (Region_made r))) (area_address r' o)) (last_byte x acts (Area o)))
                 (moved_to x (Driver (Region_made r) ∷ acts) h m s u e)
                 ∙ by_range (is_within u (model.bounce_size x) o) refl where
                   by_range : (t : Bool) → is_within u (model.bounce_size x) o ≡ t

@@ -44,7 +44,7 @@ module _ {T Y : Type 0} (f : ℕ × T → Y) (number : Y → ℕ) (same : (e : �
   pub kept_fewer : (a : ℕ) (es : List (ℕ × T)) → map f (filter (λ (e : ℕ × T). not (e.0 == a)) es) ≡ filter (λ y. not (number y == a)) (map f es)
   kept_fewer a es = mapped_fewer f (λ (e : ℕ × T). not (e.0 == a)) (λ y. not (number y == a)) (λ e. ap not (tests a e)) es
 
-  pub kept_found : (a : ℕ) (es : List (ℕ × T)) (x : T) → Some x ≡ option_map (λ (e : ℕ × T). e.1) (find (λ (e : ℕ × T). e.0 == a) es) → find (λ y. number y == a) (map f es) ≡ Some (f (a, x))
+  kept_found : (a : ℕ) (es : List (ℕ × T)) (x : T) → Some x ≡ option_map (λ (e : ℕ × T). e.1) (find (λ (e : ℕ × T). e.0 == a) es) → find (λ y. number y == a) (map f es) ≡ Some (f (a, x))
   kept_found a es x e = mapped_found f (λ (e : ℕ × T). e.0 == a) (λ y. number y == a) (tests a) es ∙ by (find (λ (e : ℕ × T). e.0 == a) es) refl where
     by : (o : Option (ℕ × T)) → find (λ (e : ℕ × T). e.0 == a) es ≡ o → option_map f o ≡ Some (f (a, x))
     by None h = absurd (let none : Some x ≡ None = e ∙ ap (option_map (λ (e : ℕ × T). e.1)) h in cc)
@@ -57,8 +57,13 @@ module _ {T Y : Type 0} (f : ℕ × T → Y) (number : Y → ℕ) (same : (e : �
           pairs : (i : ℕ) (s : T) (j : ℕ) (t : T) → i ≡ j → s ≡ t → (let p : ℕ × T = (i, s) in p) ≡ (j, t)
           pairs i s j t p q = cc
 
-  pub kept_missing : (a : ℕ) (es : List (ℕ × T)) → None ≡ option_map (λ (e : ℕ × T). e.1) (find (λ (e : ℕ × T). e.0 == a) es) → find (λ y. number y == a) (map f es) ≡ None
+  kept_missing : (a : ℕ) (es : List (ℕ × T)) → None ≡ option_map (λ (e : ℕ × T). e.1) (find (λ (e : ℕ × T). e.0 == a) es) → find (λ y. number y == a) (map f es) ≡ None
   kept_missing a es e = mapped_found f (λ (e : ℕ × T). e.0 == a) (λ y. number y == a) (tests a) es ∙ by (find (λ (e : ℕ × T). e.0 == a) es) refl where
     by : (o : Option (ℕ × T)) → find (λ (e : ℕ × T). e.0 == a) es ≡ o → option_map f o ≡ None
     by None h = refl
     by (Some k) h = absurd (let none : None ≡ Some k.1 = e ∙ ap (option_map (λ (e : ℕ × T). e.1)) h in cc)
+
+  pub kept_option : (a : ℕ) (es : List (ℕ × T)) (o : Option T) → o ≡ option_map (λ (e : ℕ × T). e.1) (find (λ (e : ℕ × T). e.0 == a) es)
+      → find (λ y. number y == a) (map f es) ≡ option_map (λ x. f (a, x)) o
+  kept_option a es None e = kept_missing a es e
+  kept_option a es (Some x) e = kept_found a es x e

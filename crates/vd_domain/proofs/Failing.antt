@@ -50,6 +50,12 @@ first_failing_past passes from (suc step) left fits all =
     ∙ first_failing_past passes (from + 1) step (left - 1) (omega arith) (λ i low high. all i (omega arith) (omega arith))
     ∙ ap (λ k. first_failing passes k (left - 1 - step)) (sym there) ∙ ap (first_failing passes (from + suc step)) (sym rest)
 
+-- where each passes, none fails
+pub first_failing_all : (passes : ℕ → Bool) (from len : ℕ) → ((i : ℕ) → from ≤ i → i < from + len → passes i ≡ true) → first_failing passes from len ≡ None
+first_failing_all passes from len all =
+    let rest : len - len ≡ 0 = omega arith in
+    first_failing_past passes from len len (omega arith) all ∙ ap (first_failing passes (from + len)) rest
+
 -- one that fails among the first is the first of all
 pub first_failing_found : (passes : ℕ → Bool) (from some len bad : ℕ) → some ≤ len → first_failing passes from some ≡ Some bad → first_failing passes from len ≡ Some bad
 first_failing_found passes from zero len bad fits e = absurd (some_is_not_none (sym e))

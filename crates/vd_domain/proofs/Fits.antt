@@ -6,9 +6,9 @@ use Rattle.std.specs.Option.{option_map}
 use Rattle.std.proofs.lemmas.Bool.Decides.{nat_tests, leb_tells}
 use Rattle.std.proofs.lemmas.List.{get_or_past}
 use Rattle.vd_num.specs.Number.{is_within, pages_of}
-use Rattle.vd_pool.specs.Memory.{Memory}
+use Rattle.vd_pool.specs.Memory.{PoolMemory}
 use Rattle.vd_bounce.specs.Frames.{frame_of, Holds}
-use Rattle.vd_bounce.specs.Bounce.{Bounce, SameShape, bounce_size, page_size, is_present}
+use Rattle.vd_bounce.specs.Bounce.{Bounce, SameShape, bounce_len, page_size, is_page_present}
 use Rattle.vd_iova.specs.Space.{Space, taken_at}
 use Rattle.vd_model.specs.Acts.{Streaming, Coherent}
 use Rattle.vd_model.specs.Live.{meets_page}
@@ -28,11 +28,11 @@ holds_test : (g p : ℕ) → (m : Streaming) → (λ (h : Holding). meets_slots 
 holds_test g p m = refl
 
 -- the area has room for the memory that is registered
-pub room_kept : (b c : Bounce) → SameShape b c → ((u : ℕ) → b.user ≡ Some u → u + bounce_size b ≤ length (unwrap_or b.area []))
-    → (u : ℕ) → c.user ≡ Some u → u + bounce_size c ≤ length (unwrap_or c.area [])
+pub room_kept : (b c : Bounce) → SameShape b c → ((u : ℕ) → b.user ≡ Some u → u + bounce_len b ≤ length (unwrap_or b.area []))
+    → (u : ℕ) → c.user ≡ Some u → u + bounce_len c ≤ length (unwrap_or c.area [])
 room_kept b c same room u e =
     let was = room u (sym same.user ∙ e) in
-    let size : bounce_size c ≡ bounce_size b = ap (λ n. 4096 * n * length c.frames) same.size ∙ ap (λ n. 4096 * b.per_page * n) same.pages in
+    let size : bounce_len c ≡ bounce_len b = ap (λ n. 4096 * n * length c.frames) same.size ∙ ap (λ n. 4096 * b.per_page * n) same.pages in
     let long : length (unwrap_or c.area []) ≡ length (unwrap_or b.area []) = len_at c.area ∙ ap (λ o. unwrap_or o 0) same.area ∙ sym (len_at b.area) in
     omega arith where
       len_at : (o : Option (List ℕ)) → length (unwrap_or o []) ≡ unwrap_or (option_map length o) 0
@@ -119,13 +119,13 @@ module _ (h : Held) (low high : Space) (uses : List ℕ) (fit : IsFit h low high
 
   -- its bytes lie in present pages
   pub live_there : (a : ℕ) (m : Streaming) → mapping_of h a ≡ Some m → (k : ℕ) → 4096 * m.slot ≤ k → k < 4096 * m.slot + m.want.len
-      → (k < bounce_size h.bounce) × (is_present h.bounce (k / page_size h.bounce) ≡ true)
+      → (k < bounce_len h.bounce) × (is_page_present h.bounce (k / page_size h.bounce) ≡ true)
   live_there a m e k from to =
       let inside = live_inside a m e in
       let top = inside.1 in
       let enough : m.want.len ≤ 4096 * pages_of m.want.len = omega arith in
       let size : 4096 * h.bounce.per_page * length h.bounce.frames ≡ 4096 * bounce_slots h = omega arith in
-      let below : k < bounce_size h.bounce = omega arith in
+      let below : k < bounce_len h.bounce = omega arith in
       let page : k / page_size h.bounce < length h.bounce.frames = page_below (page_size h.bounce) (length h.bounce.frames) k (let some = fit.some in omega arith) below in (
         below,
         framed_present h.bounce (k / page_size h.bounce) page
@@ -199,8 +199,8 @@ module _ (h : Held) (low high : Space) (uses : List ℕ) (fit : IsFit h low high
 
   -- ---- bytes that are written
 
-  pub written_fit : (b s : Bounce) (store : Memory) → SameShape h.bounce b → b.frames ≡ h.bounce.frames → SameShape h.shared s → Holds s.frames store → store.per_page ≡ h.store.per_page
-      → ((p : ℕ) → is_present s p ≡ is_present h.shared p) → IsFit (record h { bounce = b; shared = s; store = store }) low high uses
+  pub written_fit : (b s : Bounce) (store : PoolMemory) → SameShape h.bounce b → b.frames ≡ h.bounce.frames → SameShape h.shared s → Holds s.frames store → store.per_page ≡ h.store.per_page
+      → ((p : ℕ) → is_page_present s p ≡ is_page_present h.shared p) → IsFit (record h { bounce = b; shared = s; store = store }) low high uses
   written_fit b s store same frames shared holds size present = record {
     some = (let some = fit.some in let size = same.size in omega arith);
     few = (let few = fit.few in let size = same.size in omega arith);
@@ -228,7 +228,7 @@ module _ (h : Held) (low high : Space) (uses : List ℕ) (fit : IsFit h low high
 
   -- ---- one region more
 
-  pub gained_fit : (r : Coherent) (s : Bounce) (store : Memory) (after : Space) → r.number ≡ h.made → 0 < pages_of r.len → SameShape h.shared s → Holds s.frames store → store.per_page ≡ h.store.per_page
+  pub gained_fit : (r : Coherent) (s : Bounce) (store : PoolMemory) (after : Space) → r.number ≡ h.made → 0 < pages_of r.len → SameShape h.shared s → Holds s.frames store → store.per_page ≡ h.store.per_page
       → Gains (region_holds r) high after
       → ((p : ℕ) → p < length h.shared.frames → is_some (frame_of s.frames p) ≡ (is_within (r.slot - bounce_slots h) (pages_of r.len) p || is_some (frame_of h.shared.frames p)))
       → IsFit (record h { shared = s; store = store; regions = h.regions ++ r ∷ []; made = h.made + 1 }) low after uses
@@ -270,7 +270,7 @@ module _ (h : Held) (low high : Space) (uses : List ℕ) (fit : IsFit h low high
     turned false false = refl
 
     by : (p : ℕ) → ((nat_le (length h.shared.frames) p ≡ true) × (length h.shared.frames ≤ p)) ⊎ ((nat_le (length h.shared.frames) p ≡ false) × (p < length h.shared.frames))
-        → is_present s p ≡ (list_any (has_slot (bounce_slots h + p)) h.regions || list_any (has_slot (bounce_slots h + p)) (r ∷ []))
+        → is_page_present s p ≡ (list_any (has_slot (bounce_slots h + p)) h.regions || list_any (has_slot (bounce_slots h + p)) (r ∷ []))
     by p (inr below) =
         held_present h.shared s (r.slot - bounce_slots h) (pages_of r.len) same frames p below.1
         ∙ ap (λ t. is_within (r.slot - bounce_slots h) (pages_of r.len) p || t) (fit.shown p)
@@ -311,7 +311,7 @@ nothing_taken space n made counts = record {
   back = λ q any. absurd (let none : taken_at space q ≡ 0 = ap (λ (xs : List ℕ). slice_index xs q) counts ∙ zero_at n q in omega arith);
 }
 
-pub new_fit : (b s : Bounce) (store : Memory) (low high : Space) (uses : List ℕ) (maps : Numbered Bounced) (held : Numbered Extent) (count g slots top : ℕ)
+pub new_fit : (b s : Bounce) (store : PoolMemory) (low high : Space) (uses : List ℕ) (maps : Numbered Bounced) (held : Numbered Extent) (count g slots top : ℕ)
     → b ≡ record { frames = replicate count None; area = None; user = None; per_page = g }
     → s ≡ record { frames = replicate (top - slots) None; area = None; user = None; per_page = 1 }
     → low ≡ record { counts = replicate slots 0; first = g; «end» = slots } → high ≡ record { counts = replicate top 0; first = slots; «end» = top }

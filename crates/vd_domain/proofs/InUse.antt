@@ -4,11 +4,11 @@ use Rattle.std.proofs.lemmas.Bool.Decides.{nat_tests}
 use Rattle.std.specs.Prelude.{is_some}
 use Rattle.std.specs.List.{slice_index, slice_index_or, filter, list_any}
 use Rattle.vd_iova.specs.Space.{Space}
-use Rattle.vd_pool.specs.Memory.{Memory}
+use Rattle.vd_pool.specs.Memory.{PoolMemory}
 use Rattle.vd_bounce.specs.Frames.{frame_of}
 use Rattle.vd_model.specs.Setting.{Setting}
 use Rattle.vd_model.specs.Acts.{Act}
-use Rattle.vd_model.specs.Live.{in_use, meets_page}
+use Rattle.vd_model.specs.Live.{is_in_use, meets_page}
 use Rattle.vd_domain.specs.Held.{Held, IsFit}
 use Rattle.vd_domain.specs.Stands.{Stands}
 
@@ -19,10 +19,10 @@ any_counted {X} f (x ∷ xs) = by (f x) (any_counted f xs) where
   by true rest = grind (arith, nat_tests)
   by false rest = rest
 
-module _ (x : Setting) (acts : List Act) (h : Held) (m : Memory) (low high : Space) (uses : List ℕ) (flags : List Bool)
+module _ (x : Setting) (acts : List Act) (h : Held) (m : PoolMemory) (low high : Space) (uses : List ℕ) (flags : List Bool)
     (s : Stands x acts h m) (fit : IsFit h low high uses) (flagged : (p : ℕ) → slice_index_or flags p false ≡ nat_lt 0 (slice_index uses p)) where
   -- a flag says whether its page is in use
-  pub flag_is : (p : ℕ) → p < length h.bounce.frames → slice_index_or flags p false ≡ in_use x.per_page acts p
+  pub flag_is : (p : ℕ) → p < length h.bounce.frames → slice_index_or flags p false ≡ is_in_use x.per_page acts p
   flag_is p below =
       flagged p ∙ ap (λ n. nat_lt 0 n) (fit.count p below) ∙ any_counted (meets_page h.bounce.per_page p) h.live
       ∙ ap (λ g. list_any (meets_page g p) h.live) (sym s.per_page) ∙ ap (λ l. list_any (meets_page x.per_page p) l) s.live

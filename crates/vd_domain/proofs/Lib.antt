@@ -23,3 +23,5 @@ pub mod Undoing
 pub mod Batches
 pub mod Shows
 pub mod Beside
+pub mod Seeing
+pub mod Sessions

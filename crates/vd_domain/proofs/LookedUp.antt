@@ -8,13 +8,13 @@ use Rattle.vd_model.specs.AreaTurns.{lower, lowest, overlaps, first_region}
 use Rattle.vd_domain.specs.declared.streaming.Extent.{Extent}
 use Rattle.vd_domain.specs.Held.{IsTaken, region_holds}
 use Rattle.vd_domain.specs.Lists.{region_at, regions_of}
-use Rattle.vd_domain.specs.Lookup.{Lies, joined}
+use Rattle.vd_domain.specs.Lookup.{Lies, lower_or}
 
 -- it doesn't matter which two are compared first
-pub joined_lower : (first : Option Region) (r : Region) (o : Option Region) → joined (joined first (Some r)) o ≡ joined first (Some (lower r o))
-joined_lower None r o = refl
-joined_lower (Some b) r None = refl
-joined_lower (Some b) r (Some s) = ap (λ k. Some k) (by (nat_le b.start r.start) refl (nat_le r.start s.start) refl (nat_le b.start s.start) refl) where
+pub lower_or_lower : (first : Option Region) (r : Region) (o : Option Region) → lower_or (lower_or first (Some r)) o ≡ lower_or first (Some (lower r o))
+lower_or_lower None r o = refl
+lower_or_lower (Some b) r None = refl
+lower_or_lower (Some b) r (Some s) = ap (λ k. Some k) (by (nat_le b.start r.start) refl (nat_le r.start s.start) refl (nat_le b.start s.start) refl) where
   by : (p : Bool) → nat_le b.start r.start ≡ p → (q : Bool) → nat_le r.start s.start ≡ q → (t : Bool) → nat_le b.start s.start ≡ t
       → lower (lower b (Some r)) (Some s) ≡ lower b (Some (lower r (Some s)))
   by true p true q t e = left ∙ sym right where
@@ -48,14 +48,14 @@ begins_after start last r p = ap (λ b. b && nat_le start r.last) (let off : nat
 
 -- one region more was looked at
 pub next_hit : (start last : ℕ) (first : Option Region) (r : Region) (rs : List Region) → overlaps start last r ≡ true
-    → joined (joined first (Some r)) (first_region rs start last) ≡ joined first (first_region (r ∷ rs) start last)
+    → lower_or (lower_or first (Some r)) (first_region rs start last) ≡ lower_or first (first_region (r ∷ rs) start last)
 next_hit start last first r rs hit =
-    joined_lower first r (first_region rs start last)
-    ∙ sym (ap (λ b. joined first (lowest (cond b (r ∷ filter (overlaps start last) rs) (filter (overlaps start last) rs)))) hit)
+    lower_or_lower first r (first_region rs start last)
+    ∙ sym (ap (λ b. lower_or first (lowest (cond b (r ∷ filter (overlaps start last) rs) (filter (overlaps start last) rs)))) hit)
 
 pub next_miss : (start last : ℕ) (first : Option Region) (r : Region) (rs : List Region) → overlaps start last r ≡ false
-    → joined first (first_region rs start last) ≡ joined first (first_region (r ∷ rs) start last)
-next_miss start last first r rs miss = sym (ap (λ b. joined first (lowest (cond b (r ∷ filter (overlaps start last) rs) (filter (overlaps start last) rs)))) miss)
+    → lower_or first (first_region rs start last) ≡ lower_or first (first_region (r ∷ rs) start last)
+next_miss start last first r rs miss = sym (ap (λ b. lower_or first (lowest (cond b (r ∷ filter (overlaps start last) rs) (filter (overlaps start last) rs)))) miss)
 
 -- ---- the live regions lie in the space
 

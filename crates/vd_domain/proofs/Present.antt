@@ -5,9 +5,9 @@ use Rattle.std.specs.Option.{option_map_or}
 use Rattle.std.proofs.lemmas.Bool.Decides.{nat_tests, leb_tells}
 use Rattle.std.proofs.lemmas.List.{get_or_past}
 use Rattle.vd_num.specs.Number.{is_within, pages_of}
-use Rattle.vd_pool.specs.Memory.{Memory, byte_of}
+use Rattle.vd_pool.specs.Memory.{PoolMemory, byte_of}
 use Rattle.vd_bounce.specs.Frames.{frame_of}
-use Rattle.vd_bounce.specs.Bounce.{Bounce, Iova, value, page_size, is_present, SameShape}
+use Rattle.vd_bounce.specs.Bounce.{Bounce, Iova, value, page_size, is_page_present, SameShape}
 use Rattle.std.proofs.Math.Nat.{mul-le-mul_left}
 use Rattle.vd_bounce.proofs.Pages.{split, index_small}
 use Rattle.vd_domain.specs.Slots.{meets_slots}
@@ -20,7 +20,7 @@ turned t u w f e = ap (λ t. t && (u || (w || f))) e ∙ by u w f ∙ sym (ap (�
   by false w f = refl
 
 pub held_present : (b b' : Bounce) (first count : ℕ) → SameShape b b' → ((p : ℕ) → p < length b.frames → is_some (frame_of b'.frames p) ≡ (is_within first count p || is_some (frame_of b.frames p)))
-    → (p : ℕ) → p < length b.frames → is_present b' p ≡ (is_within first count p || is_present b p)
+    → (p : ℕ) → p < length b.frames → is_page_present b' p ≡ (is_within first count p || is_page_present b p)
 held_present b b' first count same frames p below =
     let inside : nat_lt p (length b.frames) ≡ true = grind (arith, nat_tests) in
     ap (λ n. nat_lt p n && (is_some b'.user || is_some (frame_of b'.frames p))) same.pages
@@ -28,7 +28,7 @@ held_present b b' first count same frames p below =
     ∙ ap (λ f. nat_lt p (length b.frames) && (is_some b.user || f)) (frames p below)
     ∙ turned (nat_lt p (length b.frames)) (is_some b.user) (is_within first count p) (is_some (frame_of b.frames p)) inside
 
-pub framed_present : (b : Bounce) (p : ℕ) → p < length b.frames → is_some (frame_of b.frames p) ≡ true → is_present b p ≡ true
+pub framed_present : (b : Bounce) (p : ℕ) → p < length b.frames → is_some (frame_of b.frames p) ≡ true → is_page_present b p ≡ true
 framed_present b p below framed =
     let inside : nat_lt p (length b.frames) ≡ true = grind (arith, nat_tests) in
     ap (λ t. t && (is_some b.user || is_some (frame_of b.frames p))) inside ∙ ap (λ f. is_some b.user || f) framed ∙ or_true (is_some b.user) where
@@ -75,7 +75,7 @@ page_past size n a some above = elim (leb_tells n (a / size)) [
 ]
 
 -- an address in a page that has no frame, where nothing is registered, holds zero
-pub absent_zero : (b : Bounce) (m : Memory) (a : ℕ) → b.user ≡ None → is_present b (a / page_size b) ≡ false → value b m (Iova a) ≡ 0
+pub absent_zero : (b : Bounce) (m : PoolMemory) (a : ℕ) → b.user ≡ None → is_page_present b (a / page_size b) ≡ false → value b m (Iova a) ≡ 0
 absent_zero b m a none absent = by (frame_of b.frames (a / page_size b)) refl where
   by : (o : Option ℕ) → frame_of b.frames (a / page_size b) ≡ o → option_map_or (λ f. byte_of m f (a % page_size b)) o 0 ≡ 0
   by None e = refl

@@ -1,7 +1,7 @@
 -- A domain with other coherent regions, and the range that one of them takes.
 use Rattle.std.proofs.Common.{◌≡◌, ℕ, ◌+◌, ◌-◌, ◌<◌, ◌≤◌, ap, sym, subst, ◌∙◌, List, Some, if◌then◌else◌, ◌==◌, length, Option, None, arith}
 use Rattle.std.specs.List.{slice_set}
-use Rattle.vd_pool.specs.Memory.{Memory, Grows}
+use Rattle.vd_pool.specs.Memory.{PoolMemory, Grows}
 use Rattle.vd_num.specs.Number.{pages_of}
 use Rattle.vd_bounce.specs.Bounce as b
 use Rattle.vd_iova.specs.Space.{Space, taken_of, taken_at}
@@ -16,7 +16,7 @@ use Rattle.vd_domain.proofs.Ended.{taken_is, begins}
 
 -- ---- with other regions
 
-pub stands_regions : {x : Setting} {acts : List Act} {m : Memory} (h : Held) (l k : List Coherent) (i j : ℕ) → l ≡ k → i ≡ j → Stands x acts (record h { regions = k; made = j }) m → Stands x acts (record h { regions = l; made = i }) m
+pub stands_regions : {x : Setting} {acts : List Act} {m : PoolMemory} (h : Held) (l k : List Coherent) (i j : ℕ) → l ≡ k → i ≡ j → Stands x acts (record h { regions = k; made = j }) m → Stands x acts (record h { regions = l; made = i }) m
 stands_regions {x} {acts} {m} h l k i j p q s = subst (λ (t : List Coherent). Stands x acts (record h { regions = t; made = i }) m) (sym p) (subst (λ n. Stands x acts (record h { regions = k; made = n }) m) (sym q) s)
 
 pub fit_regions : {low high : Space} {uses : List ℕ} (h : Held) (l k : List Coherent) (i j : ℕ) → l ≡ k → i ≡ j → IsFit (record h { regions = k; made = j }) low high uses → IsFit (record h { regions = l; made = i }) low high uses
@@ -69,7 +69,7 @@ gains_take old new number slot n m same place is taken within fresh = subst (λ 
 
 -- ---- coherent memory with more frames to give
 
-pub spared_stands : (x : Setting) (acts : List Act) (h : Held) (m store : Memory) → Grows h.store store → Stands x acts h m → Stands x acts (record h { store = store }) m
+pub spared_stands : (x : Setting) (acts : List Act) (h : Held) (m store : PoolMemory) → Grows h.store store → Stands x acts h m → Stands x acts (record h { store = store }) m
 spared_stands x acts h m store g s = record {
   bounce = s.bounce;
   iova = s.iova;

@@ -33,8 +33,8 @@ abbrev pub coherent_made : Mapping → ℕ → Coherent
 coherent_made m len = record { number = m.number; slot = m.iova / 4096; len = len }
 
 -- what a mapping is told of as
-abbrev pub info_of : Streaming → MapInfo
-info_of m = record { iova = 4096 * m.slot; want = m.want }
+abbrev pub map_info : Streaming → MapInfo
+map_info m = record { iova = 4096 * m.slot; want = m.want }
 
 -- the addresses of a region
 abbrev pub range_of : Coherent → Range

@@ -2,9 +2,9 @@
 use Rattle.std.specs.Prelude.{ℕ, ◌+◌, ◌*◌, ◌<◌, ◌≤◌, ◌≡◌, ◌≢◌, ◌==◌, List, [], length, Bool, true, Option, Some, None, is_some, unwrap_or, All, map, find, ◌⊎◌, slice_index, filter}
 use Rattle.std.specs.List.{list_any, AllPairs}
 use Rattle.vd_num.specs.Number.{pages_of, is_within}
-use Rattle.vd_pool.specs.Memory.{Memory}
+use Rattle.vd_pool.specs.Memory.{PoolMemory}
 use Rattle.vd_bounce.specs.Frames.{frame_of, Holds}
-use Rattle.vd_bounce.specs.Bounce.{Bounce, bounce_size, is_present}
+use Rattle.vd_bounce.specs.Bounce.{Bounce, bounce_len, is_page_present}
 use Rattle.vd_iova.specs.Space.{Space, taken_at}
 use Rattle.vd_model.specs.Acts.{Streaming, Coherent}
 use Rattle.vd_model.specs.Live.{meets_page}
@@ -14,7 +14,7 @@ pub record Held : Type 0 where
   pub bounce : Bounce
   -- coherent memory from the end of bounce memory on, in pages of one slot, and the frames that it is kept in
   pub shared : Bounce
-  pub store : Memory
+  pub store : PoolMemory
   -- the live mappings, the oldest first, and how many were made
   pub live : List Streaming
   pub maps : ℕ
@@ -75,7 +75,7 @@ pub record IsFit (h : Held) (low high : Space) (uses : List ℕ) : Type 0 where
   pub some : 0 < h.bounce.per_page
   pub few : h.bounce.per_page ≤ 16
   pub pages : 0 < length h.bounce.frames
-  pub room : (u : ℕ) → h.bounce.user ≡ Some u → u + bounce_size h.bounce ≤ length (unwrap_or h.bounce.area [])
+  pub room : (u : ℕ) → h.bounce.user ≡ Some u → u + bounce_len h.bounce ≤ length (unwrap_or h.bounce.area [])
   pub low_first : low.first ≡ h.bounce.per_page
   pub low_end : low.«end» ≡ bounce_slots h
   pub high_first : high.first ≡ bounce_slots h
@@ -91,4 +91,10 @@ pub record IsFit (h : Held) (low high : Space) (uses : List ℕ) : Type 0 where
   pub plain : h.shared.user ≡ None
   pub store : Holds h.shared.frames h.store
   pub size : h.store.per_page ≡ 1
-  pub shown : (p : ℕ) → is_present h.shared p ≡ list_any (has_slot (bounce_slots h + p)) h.regions
+  pub shown : (p : ℕ) → is_page_present h.shared p ≡ list_any (has_slot (bounce_slots h + p)) h.regions
+
+-- as many mappings and regions were made, and the pages are as long
+pub record SameCounts (old new : Held) : Type 0 where
+  pub maps : new.maps ≡ old.maps
+  pub made : new.made ≡ old.made
+  pub page : new.bounce.per_page ≡ old.bounce.per_page

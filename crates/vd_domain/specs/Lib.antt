@@ -8,3 +8,5 @@ pub mod Handed
 pub mod Stands
 pub mod Placing
 pub mod Lookup
+pub mod Seen
+pub mod Beside

@@ -11,6 +11,6 @@ pub record Lies (e : Extent) : Type 0 where
   pub «end» : e.slot + pages_of e.len ≤ 65536
 
 -- the lower of the first, if there is one, and of another
-abbrev pub joined : Option Region → Option Region → Option Region
-joined None other = other
-joined (Some first) other = Some (lower first other)
+abbrev pub lower_or : Option Region → Option Region → Option Region
+lower_or None other = other
+lower_or (Some first) other = Some (lower first other)

@@ -52,9 +52,9 @@ IsSeen space holds held = (start n : ℕ) → space.first ≤ start → start + 
     → list_any (meets start n) held ≡ list_any (λ (h : Holding). meets start n (record { start = h.slot; count = h.count })) holds
 
 -- a domain after these mappings, with this bounce memory
-abbrev pub shown : Held → Bounce → List Streaming → Held
-shown h b [] = record h { bounce = b }
-shown h b (m ∷ ms) = shown (record h { live = h.live ++ m ∷ []; maps = h.maps + 1; is_shown = true }) b ms
+abbrev pub with_mappings : Held → Bounce → List Streaming → Held
+with_mappings h b [] = record h { bounce = b }
+with_mappings h b (m ∷ ms) = with_mappings (record h { live = h.live ++ m ∷ []; maps = h.maps + 1; is_shown = true }) b ms
 
 -- there is a domain with this bounce memory, in whose space the wants are given what they have
 pub record IsReady (b : Bounce) (uses : List ℕ) (wants : List Want) (booked : List Booked) : Type 0 where

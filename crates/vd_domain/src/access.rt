@@ -3,21 +3,21 @@
 ghost use Rattle.std.specs.Prelude.{◌≡◌, ◌+◌, ◌-◌, ◌*◌, ◌<◌, ◌≤◌, ◌^◌, ℕ, true, None, length, slice_index, take, min, if◌then◌else◌};
 ghost use Rattle.vd_num.specs.Number.{is_within};
 ghost use Rattle.vd_bounce.specs.Frames.{Holds, Keeps};
-ghost use Rattle.vd_bounce.specs.Bounce.{Bounce, Place, Iova, value, home, over, bounce_size, is_present, SameShape};
+ghost use Rattle.vd_bounce.specs.Bounce.{Bounce, Place, Iova, value, home_place, over, bounce_len, is_page_present, SameShape};
 ghost use Rattle.vd_model.specs.AreaTurns.{first_failing};
 ghost use Rattle.vd_domain.specs.Reached.{is_reached, byte_at, IsSmall};
 
 use crate::pages::first_missing as first_missing_in;
 use vd_bounce::BounceMap;
-use vd_num::PAGE_SIZE;
+use vd_num::SLOT_SIZE;
 use vd_pool::Pool;
 
 /// Where bounce memory ends and coherent memory begins.
 pub fn end_of(bounce: &BounceMap) -> u64
     requires { IsSmall bounce.now }
-    ensures { result ≡ bounce_size bounce.now }
+    ensures { result ≡ bounce_len bounce.now }
 {
-    PAGE_SIZE * bounce.per_page() as u64 * bounce.pages() as u64
+    SLOT_SIZE * bounce.per_page() as u64 * bounce.pages() as u64
 }
 
 /// How many of `len` bytes from an address on lie below the end of bounce memory.
@@ -27,12 +27,28 @@ fn near(end: u64, at: u64, len: usize) -> usize
     len.min(end.saturating_sub(at) as usize)
 }
 
+/// Whether some addresses lie in one page, which can be accessed. Most accesses are of this kind.
+fn is_in_page(bounce: &BounceMap, shared: &BounceMap, at: u64, len: usize) -> bool
+    requires { IsSmall bounce.now }
+    ensures { result ≡ true → (a : ℕ) → at ≤ a → a < at + len → is_reached bounce.now shared.now a ≡ true }
+{
+    let end = end_of(bounce);
+    if at < end {
+        bounce.is_in_page(at, len)
+    } else {
+        shared.is_in_page(at - end, len)
+    }
+}
+
 /// The first of some addresses that can't be accessed.
 pub fn first_missing(bounce: &BounceMap, shared: &BounceMap, at: u64, len: usize) -> Option<u64>
     requires small { IsSmall bounce.now }
     requires shared_small { IsSmall shared.now }
     ensures { result ≡ first_failing (is_reached bounce.now shared.now) at len }
 {
+    if is_in_page(bounce, shared, at, len) {
+        return None;
+    }
     let end = end_of(bounce);
     let near = near(end, at, len);
     if let Some(bad) = first_missing_in(bounce, at, near as u64) {
@@ -87,12 +103,12 @@ pub fn write(
     ensures kept { Keeps bounce.old.frames bounce.new.frames pool.old pool.new }
     ensures shared_kept { Keeps shared.old.frames shared.new.frames store.old store.new }
     ensures bytes { (x : Place) → value bounce.new pool.new x
-        ≡ over (home bounce.old at) (take (min (length bytes.now) (bounce_size bounce.old - at)) bytes.now) x (value bounce.old pool.old x) }
+        ≡ over (home_place bounce.old at) (take (min (length bytes.now) (bounce_len bounce.old - at)) bytes.now) x (value bounce.old pool.old x) }
     ensures shared_bytes { (b : ℕ) → value shared.new store.new (Iova b)
-        ≡ (if is_within at (length bytes.now) (bounce_size bounce.old + b) then slice_index bytes.now (bounce_size bounce.old + b - at)
+        ≡ (if is_within at (length bytes.now) (bounce_len bounce.old + b) then slice_index bytes.now (bounce_len bounce.old + b - at)
         else value shared.old store.old (Iova b)) }
-    ensures present { (p : ℕ) → is_present bounce.new p ≡ is_present bounce.old p }
-    ensures shared_present { (p : ℕ) → is_present shared.new p ≡ is_present shared.old p }
+    ensures present { (p : ℕ) → is_page_present bounce.new p ≡ is_page_present bounce.old p }
+    ensures shared_present { (p : ℕ) → is_page_present shared.new p ≡ is_page_present shared.old p }
     ensures frames { bounce.new.frames ≡ bounce.old.frames }
     ensures same { SameShape bounce.old bounce.new }
     ensures shared_same { SameShape shared.old shared.new }

@@ -1,34 +1,33 @@
 //! A domain: what is mapped, shared and registered on one device.
 
-ghost use Rattle.std.specs.Prelude.{◌≡◌, ◌+◌, ◌-◌, ◌*◌, ◌/◌, ◌<◌, ◌≤◌, ◌^◌, ◌↔◌, ◌⊎◌, ℕ, List, [], ◌∷◌, ◌++◌, length, replicate, is_some, true, false, Some, None, unwrap_or, IfOk, OnOk, OnErr, IsErr, MatchResult};
-ghost use Rattle.std.specs.Option.{option_map};
-ghost use Rattle.std.specs.List.{list_any};
-ghost use Rattle.vd_num.specs.Number.{pages_of};
-ghost use Rattle.vd_pool.specs.Memory.{Memory};
+ghost use Rattle.std.specs.Prelude.{◌≡◌, ◌+◌, ◌-◌, ◌*◌, ◌/◌, ◌<◌, ◌≤◌, ℕ, List, [], ◌∷◌, length, replicate, false, Some, None, IfOk, OnErr, MatchResult};
+ghost use Rattle.vd_pool.specs.Memory.{PoolMemory};
 ghost use Rattle.vd_bounce.specs.Frames.{frame_of, Holds, Keeps};
-ghost use Rattle.vd_model.specs.Setting.{Setting, bounce_size};
-ghost use Rattle.vd_model.specs.Acts.{Act, Node, Driver, State, Streaming, Coherent, Closed, Daemon_put, Area_made, Area_put, Registered, Deregistered, Mapped, Unmapped, Synced_device, Synced_cpu, Region_made, Region_freed, Driver_put};
+ghost use Rattle.vd_model.specs.Setting.{Setting};
+ghost use Rattle.vd_model.specs.Acts.{Act, Node, State, Daemon_put};
 ghost use Rattle.vd_model.specs.State.{Cleared};
-ghost use Rattle.vd_model.specs.Live.{maps, regions, iova_of, registered};
-ghost use Rattle.vd_model.specs.Place.{place_of, taken};
-ghost use Rattle.vd_model.specs.Puts.{is_to_device, is_from_device, bus_bytes, area_bytes};
-ghost use Rattle.vd_model.specs.AreaTurns.{first_bus, first_failing, first_region, daemon_regions, may_register, area_start};
-ghost use Rattle.vd_model.specs.RingTurns.{placed, map_acts};
-ghost use Rattle.vd_domain.specs.Held.{mapping_of, coherent_of};
-ghost use Rattle.vd_domain.specs.Handed.{IsOf, AreOf, bytes_of, streaming_of, coherent_made, info_of, range_of, is_coherent};
+ghost use Rattle.vd_model.specs.Live.{maps, regions, registration_of};
+ghost use Rattle.vd_model.specs.Puts.{bus_bytes};
+ghost use Rattle.vd_model.specs.AreaTurns.{first_bus};
+ghost use Rattle.vd_domain.specs.Held.{SameCounts};
+
+mod areas;
+mod batch;
+mod coherent;
+mod mappings;
+mod rings;
+mod seen;
 
 use crate::access::{first_missing, read, write};
-use crate::booking::book;
 use crate::numbered::Numbered;
-use crate::pages::{pages_met, show};
-use crate::streaming::{Bounced, Extent, gives, hands};
+use crate::streaming::{Bounced, Extent};
 use crate::uses::Uses;
+pub use areas::AREA_START;
 use std::alloc::{AllocError, Global};
 use std::marker::Model;
-use vd_bounce::{AreaError, BounceMap};
+use vd_bounce::BounceMap;
 use vd_iova::Iova;
-use vd_model::{MapError, MapInfo, Mapping, Region, Want};
-use vd_num::{Bus, Errno, PAGE_SIZE, Range, pages};
+use vd_num::Bus;
 use vd_pool::Pool;
 
 /// No live mapping, or no live region, has the number.
@@ -45,16 +44,16 @@ pub enum SyncError {
 
 /// The memory of a device. It can't be dropped, since each frame has to be given back.
 pub struct Domain {
-    pub(crate) alloc: Global,
-    pub(crate) bounce: BounceMap,
-    pub(crate) shared: BounceMap,
-    pub(crate) store: Pool,
-    pub(crate) low: Iova,
-    pub(crate) high: Iova,
-    pub(crate) mappings: Numbered<Bounced>,
-    pub(crate) regions: Numbered<Extent>,
-    pub(crate) uses: Uses,
-    pub(crate) is_shown: bool,
+    alloc: Global,
+    bounce: BounceMap,
+    shared: BounceMap,
+    store: Pool,
+    low: Iova,
+    high: Iova,
+    mappings: Numbered<Bounced>,
+    regions: Numbered<Extent>,
+    uses: Uses,
+    is_shown: bool,
 }
 
 impl Model for Domain {
@@ -103,8 +102,8 @@ impl Domain {
         requires low { 2 * per_page ≤ bounce_slots }
         requires order { bounce_slots < iova_slots }
         requires small { iova_slots ≤ 65536 }
-        ensures stands { IfOk result (λ d. (x : Setting) (m : Memory) → x.bounce ≡ bounce_slots → x.iova ≡ iova_slots → x.per_page ≡ per_page → Stands x [] d m) }
-        ensures holds { IfOk result (λ d. (m : Memory) → Holds d.bounce.frames m) }
+        ensures stands { IfOk result (λ d. (x : Setting) (m : PoolMemory) → x.bounce ≡ bounce_slots → x.iova ≡ iova_slots → x.per_page ≡ per_page → Stands x [] d m) }
+        ensures holds { IfOk result (λ d. (m : PoolMemory) → Holds d.bounce.frames m) }
         ensures none { IfOk result (λ d. (p : ℕ) → frame_of d.bounce.frames p ≡ None) }
         ensures size { IfOk result (λ d. d.bounce.per_page ≡ per_page) }
         ensures made { IfOk result (λ d. (d.maps ≡ 0) × (d.made ≡ 0)) }
@@ -135,87 +134,6 @@ impl Domain {
         }
     }
 
-    /// Maps a range of a buffer, whose bytes these are.
-    pub fn map(&mut self, pool: &mut Pool, want: Want, bytes: &[u8]) -> Result<Mapping, MapError>
-        requires holds { Holds self.old.bounce.frames pool.old }
-        requires size { pool.old.per_page ≡ self.old.bounce.per_page }
-        requires text { length bytes.now ≡ want.len }
-        requires made { self.old.maps < 2 ^ 62 }
-        ensures kept { Keeps self.old.bounce.frames self.new.bounce.frames pool.old pool.new }
-        ensures ok { (x : Setting) (acts : List Act) → Stands x acts self.old pool.old → IsOf x.per_page acts want bytes.now
-            → IfOk result (λ m. Stands x (Driver (Mapped (streaming_of m want)) ∷ acts) self.new pool.new) }
-        ensures place { (x : Setting) (acts : List Act) → Stands x acts self.old pool.old → IfOk result (λ m.
-            (m.number ≡ maps acts) × (m.iova ≡ 4096 * (m.iova / 4096)) × (place_of (taken acts) (pages_of want.len) x.per_page x.bounce ≡ Some (m.iova / 4096))) }
-        ensures full { (x : Setting) (acts : List Act) → Stands x acts self.old pool.old → result ≡ Err MapError.NoSpace
-            → place_of (taken acts) (pages_of want.len) x.per_page x.bounce ≡ None }
-        ensures empty { result ≡ Err MapError.Empty ↔ (want.len ≡ 0) }
-        ensures err { (x : Setting) (acts : List Act) → Stands x acts self.old pool.old → OnErr result (Stands x acts self.new pool.new) }
-        ensures same { OnErr result (self.new ≡ self.old) }
-        ensures counts { (self.new.maps ≤ self.old.maps + 1) × (self.new.made ≡ self.old.made) }
-        ensures page { self.new.bounce.per_page ≡ self.old.bounce.per_page }
-    {
-        if want.len == 0 {
-            return Err(MapError::Empty);
-        }
-        let per_page = self.bounce.per_page() as u64;
-        let booked = match book(&mut self.low, &mut self.mappings, pool, per_page, want) {
-            Ok(booked) => booked,
-            Err(error) => return Err(error),
-        };
-        self.uses.enter(booked.pages);
-        let iova = PAGE_SIZE * booked.slot;
-        show(&mut self.bounce, pool, booked.pages, want.dir, iova, bytes);
-        self.is_shown = true;
-        Ok(Mapping {
-            number: booked.number,
-            iova,
-        })
-    }
-
-    /// What is mapped under a number, or none where it isn't live.
-    pub fn info(&self, number: u64) -> Option<MapInfo>
-        ensures { result ≡ option_map info_of (mapping_of self.now number) }
-    {
-        match self.mappings.get(number) {
-            Some(m) => Some(MapInfo {
-                iova: PAGE_SIZE * m.slot,
-                want: m.want,
-            }),
-            None => None,
-        }
-    }
-
-    /// Ends a mapping, and fills the slice with its bytes where it comes from the device.
-    pub fn unmap(&mut self, pool: &mut Pool, number: u64, out: &mut [u8]) -> Result<(), NotLive>
-        requires holds { Holds self.old.bounce.frames pool.old }
-        requires size { pool.old.per_page ≡ self.old.bounce.per_page }
-        requires room { (m : Streaming) → mapping_of self.old number ≡ Some m → length out.old ≡ m.want.len }
-        ensures kept { Keeps self.old.bounce.frames self.new.bounce.frames pool.old pool.new }
-        ensures none { IsErr result ↔ (mapping_of self.old number ≡ None) }
-        ensures ok { (x : Setting) (acts : List Act) (m : Streaming) → mapping_of self.old number ≡ Some m → Stands x acts self.old pool.old
-            → Stands x (Driver (Unmapped m) ∷ acts) self.new pool.new }
-        ensures given { (x : Setting) (acts : List Act) (m : Streaming) → mapping_of self.old number ≡ Some m → Stands x acts self.old pool.old
-            → is_from_device m.want.dir ≡ true → out.new ≡ bus_bytes x.per_page acts (iova_of m) m.want.len }
-        ensures left { (m : Streaming) → mapping_of self.old number ≡ Some m → is_from_device m.want.dir ≡ false → out.new ≡ out.old }
-        ensures err { OnErr result ((self.new ≡ self.old) × (pool.new ≡ pool.old) × (out.new ≡ out.old)) }
-        ensures counts { (self.new.maps ≡ self.old.maps) × (self.new.made ≡ self.old.made) }
-        ensures page { self.new.bounce.per_page ≡ self.old.bounce.per_page }
-    {
-        let m = match self.mappings.get(number) {
-            Some(m) => m,
-            None => return Err(NotLive),
-        };
-        if gives(m.want.dir) {
-            self.bounce.get(pool, PAGE_SIZE * m.slot, out);
-        }
-        let per_page = self.bounce.per_page() as u64;
-        self.uses
-            .leave(pages_met(m.slot, pages(m.want.len), per_page));
-        self.low.give(m.slot);
-        self.mappings.remove(number);
-        Ok(())
-    }
-
     /// Fills a slice with the bytes from an address on, or answers the first address that can't be accessed.
     pub fn load(&self, pool: &Pool, at: u64, out: &mut [u8]) -> Result<(), Bus>
         requires holds { Holds self.now.bounce.frames pool.now }
@@ -241,8 +159,7 @@ impl Domain {
             (λ _. (first_bus x acts at (length bytes.now) ≡ None) × Stands x (Node (Daemon_put at bytes.now) ∷ acts) self.new pool.new)
             (λ bus. first_bus x acts at (length bytes.now) ≡ Some bus.at) }
         ensures err { OnErr result ((self.new ≡ self.old) × (pool.new ≡ pool.old)) }
-        ensures counts { (self.new.maps ≡ self.old.maps) × (self.new.made ≡ self.old.made) }
-        ensures page { self.new.bounce.per_page ≡ self.old.bounce.per_page }
+        ensures counts { SameCounts self.old self.new }
     {
         if let Some(at) = first_missing(&self.bounce, &self.shared, at, bytes.len()) {
             return Err(Bus { at });
@@ -258,66 +175,6 @@ impl Domain {
         Ok(())
     }
 
-    /// Copies a mapping's bytes to the device, as a map does.
-    pub fn sync_device(
-        &mut self,
-        pool: &mut Pool,
-        number: u64,
-        bytes: &[u8],
-    ) -> Result<(), SyncError>
-        requires holds { Holds self.old.bounce.frames pool.old }
-        requires size { pool.old.per_page ≡ self.old.bounce.per_page }
-        requires text { (m : Streaming) → mapping_of self.old number ≡ Some m → length bytes.now ≡ m.want.len }
-        ensures kept { Keeps self.old.bounce.frames self.new.bounce.frames pool.old pool.new }
-        ensures not_live { result ≡ Err SyncError.NotLive ↔ (mapping_of self.old number ≡ None) }
-        ensures wrong { (m : Streaming) → mapping_of self.old number ≡ Some m → result ≡ Err SyncError.WrongDir ↔ (is_to_device m.want.dir ≡ false) }
-        ensures ok { (x : Setting) (acts : List Act) (m : Streaming) → mapping_of self.old number ≡ Some m → Stands x acts self.old pool.old
-            → IsOf x.per_page acts m.want bytes.now → OnOk result (Stands x (Driver (Synced_device m) ∷ acts) self.new pool.new) }
-        ensures err { OnErr result ((self.new ≡ self.old) × (pool.new ≡ pool.old)) }
-        ensures counts { (self.new.maps ≡ self.old.maps) × (self.new.made ≡ self.old.made) }
-        ensures page { self.new.bounce.per_page ≡ self.old.bounce.per_page }
-    {
-        let m = match self.mappings.get(number) {
-            Some(m) => m,
-            None => return Err(SyncError::NotLive),
-        };
-        if !hands(m.want.dir) {
-            return Err(SyncError::WrongDir);
-        }
-        self.bounce.put(pool, PAGE_SIZE * m.slot, bytes);
-        Ok(())
-    }
-
-    /// Fills a slice with a mapping's bytes, as an unmap does.
-    pub fn sync_cpu(
-        &mut self,
-        pool: &mut Pool,
-        number: u64,
-        out: &mut [u8],
-    ) -> Result<(), SyncError>
-        requires holds { Holds self.old.bounce.frames pool.old }
-        requires size { pool.old.per_page ≡ self.old.bounce.per_page }
-        requires room { (m : Streaming) → mapping_of self.old number ≡ Some m → length out.old ≡ m.want.len }
-        ensures not_live { result ≡ Err SyncError.NotLive ↔ (mapping_of self.old number ≡ None) }
-        ensures wrong { (m : Streaming) → mapping_of self.old number ≡ Some m → result ≡ Err SyncError.WrongDir ↔ (is_from_device m.want.dir ≡ false) }
-        ensures ok { (x : Setting) (acts : List Act) (m : Streaming) → mapping_of self.old number ≡ Some m → Stands x acts self.old pool.old
-            → Stands x (Driver (Synced_cpu m) ∷ acts) self.new pool.new }
-        ensures given { (x : Setting) (acts : List Act) (m : Streaming) → mapping_of self.old number ≡ Some m → Stands x acts self.old pool.old
-            → OnOk result (out.new ≡ bus_bytes x.per_page acts (iova_of m) m.want.len) }
-        ensures left { OnErr result (out.new ≡ out.old) }
-        ensures same { (self.new ≡ self.old) × (pool.new ≡ pool.old) }
-    {
-        let m = match self.mappings.get(number) {
-            Some(m) => m,
-            None => return Err(SyncError::NotLive),
-        };
-        if !gives(m.want.dir) {
-            return Err(SyncError::WrongDir);
-        }
-        self.bounce.get(pool, PAGE_SIZE * m.slot, out);
-        Ok(())
-    }
-
     /// How many mappings and coherent regions are live.
     pub fn live(&self) -> u64
         ensures { result ≡ length self.now.live + length self.now.regions }
@@ -327,23 +184,10 @@ impl Domain {
 
     /// Ends the bounce region. Pages and mappings stay.
     pub fn reset_bounce(&mut self)
-        ensures ok { (x : Setting) (acts : List Act) (m : Memory) → Stands x acts self.old m → Stands x (State Cleared ∷ acts) self.new m }
+        ensures ok { (x : Setting) (acts : List Act) (m : PoolMemory) → Stands x acts self.old m → Stands x (State Cleared ∷ acts) self.new m }
         ensures same { self.new ≡ record self.old { is_shown = false } }
     {
         self.is_shown = false;
-    }
-
-    /// The addresses of a coherent region, or none where it isn't live.
-    pub fn coherent(&self, number: u64) -> Option<Range>
-        ensures { result ≡ option_map range_of (coherent_of self.now number) }
-    {
-        match self.regions.get(number) {
-            Some(r) => Some(Range {
-                start: PAGE_SIZE * r.slot,
-                last: PAGE_SIZE * (r.slot + pages(r.len)) - 1,
-            }),
-            None => None,
-        }
     }
 
     /// Gives every frame of bounce memory back.

@@ -8,18 +8,13 @@
 #![tactic(auto)]
 
 mod access;
-mod areas;
-mod batch;
 mod booking;
-mod coherent;
 mod domain;
 mod numbered;
 mod pages;
-mod ring_access;
 mod streaming;
 #[cfg(test)]
 mod tests;
 mod uses;
 
-pub use areas::AREA_START;
-pub use domain::{Domain, NotLive, SyncError};
+pub use domain::{AREA_START, Domain, NotLive, SyncError};

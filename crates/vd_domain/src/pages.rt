@@ -2,9 +2,9 @@
 
 ghost use Rattle.std.specs.Prelude.{◌≡◌, ◌+◌, ◌-◌, ◌*◌, ◌/◌, ◌<◌, ◌≤◌, ◌^◌, ◌||◌, ◌==◌, ℕ, length, is_some, true, if◌then◌else◌, IfSome, IfNone};
 ghost use Rattle.vd_num.specs.Number.{is_within};
-ghost use Rattle.vd_pool.specs.Memory.{Memory};
+ghost use Rattle.vd_pool.specs.Memory.{PoolMemory};
 ghost use Rattle.vd_bounce.specs.Frames.{frame_of, Holds, Keeps};
-ghost use Rattle.vd_bounce.specs.Bounce.{Place, value, home, over, page_size, bounce_size, is_present, IsThere, SameShape};
+ghost use Rattle.vd_bounce.specs.Bounce.{Place, value, home_place, over, page_size, bounce_len, is_page_present, IsThere, SameShape};
 ghost use Rattle.vd_model.specs.AreaTurns.{first_failing};
 ghost use Rattle.vd_model.specs.Puts.{is_to_device};
 ghost use Rattle.vd_domain.specs.Slots.{meets_slots};
@@ -12,7 +12,7 @@ ghost use Rattle.vd_domain.specs.Slots.{meets_slots};
 use crate::streaming::hands;
 use vd_bounce::BounceMap;
 use vd_model::Dir;
-use vd_num::PAGE_SIZE;
+use vd_num::SLOT_SIZE;
 use vd_pool::Pool;
 
 /// Pages in a row: the first, and how many.
@@ -67,7 +67,7 @@ pub fn show(map: &mut BounceMap, pool: &mut Pool, pages: Pages, dir: Dir, iova: 
     requires inside { (a : ℕ) → iova ≤ a → a < iova + length bytes.now → is_within pages.first pages.count (a / page_size map.old) ≡ true }
     ensures kept { Keeps map.old.frames map.new.frames pool.old pool.new }
     ensures bytes { (x : Place) → value map.new pool.new x
-        ≡ (if is_to_device dir then over (home map.old iova) bytes.now x (value map.old pool.old x) else value map.old pool.old x) }
+        ≡ (if is_to_device dir then over (home_place map.old iova) bytes.now x (value map.old pool.old x) else value map.old pool.old x) }
     ensures frames { (p : ℕ) → p < length map.old.frames → is_some (frame_of map.new.frames p)
         ≡ (is_within pages.first pages.count p || is_some (frame_of map.old.frames p)) }
     ensures spare { pool.old.spare ≤ pool.new.spare + pages.count }
@@ -100,12 +100,12 @@ fn hold_page(map: &mut BounceMap, pool: &mut Pool, page: u32)
 
 /// The first of some addresses that lies in no present page.
 pub fn first_missing(map: &BounceMap, from: u64, len: u64) -> Option<u64>
-    requires { bounce_size map.now ≤ 2 ^ 48 }
-    ensures bound { IfSome result (λ bad. from < bad → bad ≤ bounce_size map.now) }
-    ensures first { result ≡ first_failing (λ a. is_present map.now (a / page_size map.now)) from len }
+    requires { bounce_len map.now ≤ 2 ^ 48 }
+    ensures bound { IfSome result (λ bad. from < bad → bad ≤ bounce_len map.now) }
+    ensures first { result ≡ first_failing (λ a. is_page_present map.now (a / page_size map.now)) from len }
     ensures there { IfNone result (IsThere map.now from len) }
 {
-    let size = PAGE_SIZE * map.per_page() as u64;
+    let size = SLOT_SIZE * map.per_page() as u64;
     let count = map.pages() as u64;
     let mut at = from;
     let mut left = len;

@@ -1,4 +1,5 @@
 pub mod Masks
+pub mod Tops
 pub mod Multiples
 pub mod Pieces
 pub mod Places

@@ -63,7 +63,7 @@ no_run_join words step n lo mid hi low high k above below multiple clear = elim 
 pub no_run_set : (words : List ℕ) (step n lo hi : ℕ) → 0 < n → ((k : ℕ) → lo ≤ k → k < hi → bit words k ≡ 1) → NoRun words step n lo hi
 no_run_set words step n lo hi some set k above below multiple clear = one_not_zero (clear k (omega arith) (omega arith)) (set k above below)
 
-full_bit : (words : List ℕ) (w k : ℕ) → IsFullWord words w → 64 * w ≤ k → k < 64 * (w + 1) → bit words k ≡ 1
+pub full_bit : (words : List ℕ) (w k : ℕ) → IsFullWord words w → 64 * w ≤ k → k < 64 * (w + 1) → bit words k ≡ 1
 full_bit words w k ones low high =
     let back : 64 * w + (k - 64 * w) ≡ k = omega arith in
     subst (λ x. bit words x ≡ 1) back (ones (k - 64 * w) (omega arith))

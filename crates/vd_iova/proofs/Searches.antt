@@ -7,7 +7,7 @@ use Rattle.vd_num.specs.Number.{power_from}
 use Rattle.std.specs.List.{slice_index}
 use Rattle.vd_iova.specs.Bits.{bit, IsClear, IsClearWord, NoRun, IsFullWord, IsSummary, IsOutside, SumsUp, IsTopRun}
 use Rattle.vd_iova.proofs.Multiples.{between}
-use Rattle.vd_iova.proofs.Runs.{bit_in, bit_small, bit_tells, bit_of, no_run_join, no_run_set, one_not_zero}
+use Rattle.vd_iova.proofs.Runs.{bit_in, bit_small, bit_tells, bit_of, full_bit, no_run_join, no_run_set, one_not_zero}
 
 -- a word in which no single bit is clear is full
 pub full_by_none : (words : List ℕ) (w step : ℕ) → step ≡ 1 → ((k : ℕ) → k < 64 → k % step ≡ 0 → IsClearWord (slice_index words w) k 1 → ⊥) → IsFullWord words w
@@ -24,6 +24,15 @@ group_sums words full sum group from to s read in_group inside = record {
 } where
   there : (w : ℕ) → from ≤ w → w < to → bit full w ≡ bit_at sum (w % 64)
   there w low high = bit_in full w group (in_group w low high) ∙ ap (λ x. bit_at x (w % 64)) (sym read)
+
+-- the words of a group above a bit of its summary word, where those bits are set
+module _ (words : List ℕ) (sum from to base step n : ℕ) (sums : SumsUp words sum from to) (some : 0 < n) (start : base ≡ from / 64 * 64) (group : to ≤ base + 64) where
+  pub no_run_sums : (lo end : ℕ) → from ≤ base + lo → base + end ≤ to → ((j : ℕ) → lo ≤ j → j < end → bit_at sum j ≡ 1) → NoRun words step n (64 * (base + lo)) (64 * (base + end))
+  no_run_sums lo end low high set = no_run_set words step n (64 * (base + lo)) (64 * (base + end)) some (λ k above below.
+      let w : ℕ = k / 64 in
+      let rest : w % 64 ≡ w - base = omega (arith, start) in
+      let one : bit_at sum (w % 64) ≡ 1 = ap (λ j. bit_at sum j) rest ∙ set (w - base) (omega arith) (omega arith) in
+      full_bit words w k (sums.is_full w (omega arith) (omega arith) one) (omega arith) (omega arith))
 
 module _ (words : List ℕ) (step n first end : ℕ) (some : 0 < n) (out : IsOutside words first end) where
   pub no_run_below : (lo hi : ℕ) → hi ≤ first → hi ≤ 64 * length words → NoRun words step n lo hi

@@ -19,6 +19,12 @@ IsClear words start n = (p : ℕ) → start ≤ p → p < start + n → bit word
 abbrev pub NoRun : List ℕ → ℕ → ℕ → ℕ → ℕ → Type 0
 NoRun words step n lo hi = (k : ℕ) → lo ≤ k → k < hi → k % step ≡ 0 → IsClear words k n → ⊥
 
+-- bit i is the greatest clear one of the word below bit `end`
+pub record IsTopClear (word end i : ℕ) : Type 0 where
+  pub below : i < end
+  pub clear : bit_at word i ≡ 0
+  pub top : (j : ℕ) → i < j → j < end → bit_at word j ≡ 1
+
 -- lo is the greatest multiple of step from which n bits of the word are clear
 pub record IsTopInWord (word step n lo : ℕ) : Type 0 where
   pub multiple : lo % step ≡ 0

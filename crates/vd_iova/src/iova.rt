@@ -64,23 +64,6 @@ impl Iova {
         })
     }
 
-    /// Makes sure that a take needs no memory, which is so from the making on.
-    pub fn reserve(&mut self) -> Result<(), AllocError>
-        ensures ok { OnOk result (1 ≤ self.new.end - self.new.first) }
-        ensures same { self.new ≡ self.old }
-    {
-        let _ = &self.first;
-        Ok(())
-    }
-
-    /// How many takes need no memory: as many as there are slots.
-    pub fn spare(&self) -> u64
-        ensures value { result ≡ self.now.end - self.now.first }
-        ensures some { 1 ≤ result }
-    {
-        (self.end - self.first) as u64
-    }
-
     /// Takes the greatest place for some slots.
     pub fn take(&mut self, pages: u64) -> Result<u64, Full>
         requires { 1 ≤ pages }
@@ -249,19 +232,16 @@ mod tests {
     #[test]
     fn aligned_places(rt: HostRuntime) -> Result<(), Fail> {
         let mut space = Iova::new(rt.alloc(), 1, 16384)?;
-        space.reserve()?;
         assert_eq!(rt; space.take(1), Ok(16383));
         let start = space.take(2)?;
         let one = space.take(1);
         let four = space.take(4);
         space.give(start);
         let again = space.take(2);
-        let spare = space.spare();
         assert_eq!(rt; start, 16380);
         assert_eq!(rt; one, Ok(16382));
         assert_eq!(rt; four, Ok(16376));
         assert_eq!(rt; again, Ok(16380));
-        assert_eq!(rt; spare, 16383);
         Ok(())
     }
 

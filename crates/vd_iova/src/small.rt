@@ -5,7 +5,7 @@ ghost use Rattle.std.specs.Int.{bit_at};
 ghost use Rattle.vd_num.specs.Number.{is_within};
 ghost use Rattle.vd_iova.specs.Bits.{bit, IsSearch, IsSummary, SumsUp, NoRun, IsFound, IsFoundIn, IsTopRun, Takes};
 
-use crate::word::{is_clear, top_run, with_bits, words_for};
+use crate::word::{top_clear, top_run, with_bits, words_for};
 use std::sync::ledger::Ledger;
 use vd_num::{Steps, Words};
 
@@ -18,7 +18,7 @@ struct Found {
     lo: u32,
 }
 
-/// The top run in the words from `from` to `to` - 1, which share a summary word.
+/// The top run in the words from `from` to `to` - 1, which share a summary word. Full words are passed over.
 fn find_in_group<L: Ledger>(
     words: &Words,
     sum: u64,
@@ -32,6 +32,8 @@ fn find_in_group<L: Ledger>(
     requires fits { n ≤ step }
     requires least { step < 2 * n }
     requires whole { (q : ℕ) × (64 ≡ q * step) }
+    requires order { from < to }
+    requires group { to ≤ from / 64 * 64 + 64 }
     requires inside { to ≤ length words.now }
     requires small { length words.now ≤ 1024 }
     requires sums { SumsUp words.now sum from to }
@@ -41,13 +43,18 @@ fn find_in_group<L: Ledger>(
     ensures cost { steps.new ≤ steps.old + (to - from) }
     ensures one { n ≡ 1 → steps.new ≤ steps.old + (if is_some result then 1 else 0) }
 {
-    for at in (from..to).rev() {
-        if is_clear(sum, (at % 64) as u32) {
-            let word = words.look(at, steps);
-            if let Some(lo) = top_run(word, n, step) {
-                return Some(Found { at, word, sum, lo });
-            }
+    let base = from / 64 * 64;
+    let mut end = (to - base) as u32;
+    while let Some(bit) = top_clear(sum, end) {
+        let at = base + bit as usize;
+        if at < from {
+            return None;
         }
+        let word = words.look(at, steps);
+        if let Some(lo) = top_run(word, n, step) {
+            return Some(Found { at, word, sum, lo });
+        }
+        end = bit;
     }
     None
 }

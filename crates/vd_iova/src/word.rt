@@ -3,7 +3,7 @@
 ghost use Rattle.std.specs.Prelude.{◌≡◌, ◌+◌, ◌-◌, ◌*◌, ◌/◌, ◌%◌, ◌<◌, ◌≤◌, ◌^◌, ◌↔◌, ℕ, IsTrue, MatchOption, if◌then◌else◌};
 ghost use Rattle.std.specs.Int.{bit_at};
 ghost use Rattle.vd_num.specs.Number.{is_within};
-ghost use Rattle.vd_iova.specs.Bits.{IsClearWord, IsTopInWord};
+ghost use Rattle.vd_iova.specs.Bits.{IsClearWord, IsTopClear, IsTopInWord};
 
 /// How many words hold so many bits.
 pub fn words_for(bits: usize) -> usize
@@ -48,15 +48,23 @@ pub fn are_clear(word: u64, lo: u32, n: u32) -> bool
     word & mask(lo, n) == 0
 }
 
-/// Whether a bit is clear.
-pub fn is_clear(word: u64, at: u32) -> bool
-    requires { at < 64 }
-    ensures { IsTrue result ↔ (bit_at word at ≡ 0) }
+/// The greatest clear bit of a word below bit `end`.
+pub fn top_clear(word: u64, end: u32) -> Option<u32>
+    requires { end ≤ 64 }
+    ensures { MatchOption result ((i : ℕ) → i < end → bit_at word i ≡ 1) (IsTopClear word end) }
 {
-    (word >> at) & 1 == 0
+    if end == 0 {
+        return None;
+    }
+    let clear = !word & mask(0, end);
+    if clear == 0 {
+        return None;
+    }
+    Some(clear.ilog2())
 }
 
-/// The greatest multiple of `step` from which `n` bits of a word are clear.
+/// The greatest multiple of `step` from which `n` bits of a word are clear. Each look goes past a clear bit,
+/// so a full word takes none.
 pub fn top_run(word: u64, n: u32, step: u32) -> Option<u32>
     requires some { 0 < n }
     requires fits { n ≤ step }
@@ -65,13 +73,13 @@ pub fn top_run(word: u64, n: u32, step: u32) -> Option<u32>
         ((k : ℕ) → k < 64 → k % step ≡ 0 → IsClearWord word k n → ⊥)
         (IsTopInWord word step n) }
 {
-    let mut next = 64;
-    while next > 0 {
-        let start = next - step;
+    let mut end = 64;
+    while let Some(top) = top_clear(word, end) {
+        let start = top - top % step;
         if are_clear(word, start, n) {
             return Some(start);
         }
-        next = start;
+        end = start;
     }
     None
 }

@@ -1,7 +1,7 @@
 -- A frame that is out changes places with the first of those that are out.
 use Rattle.std.proofs.Common.{◌≡◌, ℕ, ◌+◌, ◌<◌, ◌≢◌, ◌⊎◌, inl, inr, refl, subst, ap, sym, ◌∙◌, arith, List, length, get_or, set, length-set, get_or-set_same, get_or-set_other}
 use Rattle.std.proofs.lemmas.Bool.Decides.{eqb_tells}
-use Rattle.vd_pool.specs.Memory.{Memory, IsSound}
+use Rattle.vd_pool.specs.Memory.{PoolMemory, IsSound}
 use Rattle.std.specs.List.{slice_index, slice_set}
 
 pub nat_tells : (a b : ℕ) → (a ≡ b) ⊎ (a ≢ b)
@@ -60,7 +60,7 @@ half n o p k g f q lo lp there back kn fn og pq = record { at = at } where
     ]
   ]
 
-pub given_sound : (m : Memory) (order : List ℕ) (f q g : ℕ) → IsSound m order → f < length m.frames → m.spare < length m.frames
+pub given_sound : (m : PoolMemory) (order : List ℕ) (f q g : ℕ) → IsSound m order → f < length m.frames → m.spare < length m.frames
     → slice_index order m.spare ≡ g → slice_index m.place f ≡ q
     → IsSound (record { frames = m.frames; place = slice_set (slice_set m.place g q) f m.spare; spare = m.spare + 1; per_page = m.per_page }) (slice_set (slice_set order q g) m.spare f)
 given_sound m order f q g s fn kn og pq = record {

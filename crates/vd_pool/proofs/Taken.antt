@@ -3,7 +3,7 @@ use Rattle.std.proofs.Common.{◌≡◌, ℕ, zero, suc, ◌-◌, ◌*◌, ◌<�
 use Rattle.std.proofs.lemmas.Grind.{common_steps}
 use Rattle.std.proofs.lemmas.Bool.Decides.{nat_tests, eqb_tells, leb_tells}
 use Rattle.std.specs.List.{slice_index, slice_index_or, slice_set}
-use Rattle.vd_pool.specs.Memory.{Memory, IsSound, is_out, byte_of, Adds}
+use Rattle.vd_pool.specs.Memory.{PoolMemory, IsSound, is_out, byte_of, Adds}
 use Rattle.vd_pool.proofs.Exchange.{nat_tells}
 
 -- a place that isn't the last of the spare ones is spare as before
@@ -13,7 +13,7 @@ apart_at g n a k pos h = elim (eqb_tells a (k - 1)) [
   | inr e ↦ (let ne = e.1 in grind (arith, nat_tests))
 ]
 
-module _ (m : Memory) (order : List ℕ) (f : ℕ) (s : IsSound m order) (pos : 0 < m.spare) (e : slice_index order (m.spare - 1) ≡ f) where
+module _ (m : PoolMemory) (order : List ℕ) (f : ℕ) (s : IsSound m order) (pos : 0 < m.spare) (e : slice_index order (m.spare - 1) ≡ f) where
   there : slice_index m.place f ≡ m.spare - 1
   there = ap (λ k. slice_index m.place k) (sym e) ∙ (s.back (m.spare - 1) (let most = s.spare in omega arith)).1
 
@@ -46,7 +46,7 @@ zeros_more [] page (suc g) i zeros = refl
 zeros_more (x ∷ xs) page zero i zeros = refl
 zeros_more (x ∷ xs) page (suc g) i zeros = zeros_more xs page g i zeros
 
-pub made : (m : Memory) (order : List ℕ) (number : ℕ) (page : List ℕ) (frames : List (List ℕ)) (place : List ℕ) → IsSound m order
+pub made : (m : PoolMemory) (order : List ℕ) (number : ℕ) (page : List ℕ) (frames : List (List ℕ)) (place : List ℕ) → IsSound m order
     → ((i : ℕ) → slice_index page i ≡ 0) → number ≡ length m.frames → frames ≡ m.frames ++ page ∷ [] → place ≡ m.place ++ number ∷ []
     → Adds number m (record { frames = frames; place = place; spare = m.spare; per_page = m.per_page })
 unfolding is_out byte_of
@@ -68,7 +68,7 @@ sized_more n [] page all size (suc g) h = absurd (omega arith)
 sized_more n (x ∷ xs) page all size zero h = all zero (omega arith)
 sized_more n (x ∷ xs) page all size (suc g) h = sized_more n xs page (λ k below. all (suc k) (omega arith)) size g (omega arith)
 
-pub made_sound : (m : Memory) (order : List ℕ) (number : ℕ) (page : List ℕ) → IsSound m order → number ≡ length m.frames → length page ≡ 4096 * m.per_page
+pub made_sound : (m : PoolMemory) (order : List ℕ) (number : ℕ) (page : List ℕ) → IsSound m order → number ≡ length m.frames → length page ≡ 4096 * m.per_page
     → IsSound (record { frames = m.frames ++ page ∷ []; place = m.place ++ number ∷ []; spare = m.spare; per_page = m.per_page }) (order ++ number ∷ [])
 made_sound m order number page s e size = record {
   places = grind (arith, common_steps);
@@ -79,7 +79,7 @@ made_sound m order number page s e size = record {
   forth = λ f h. grind (arith, common_steps, s.forth f);
 }
 
-pub written_sound : (m : Memory) (order : List ℕ) (f : ℕ) (page : List ℕ) → IsSound m order → length page ≡ 4096 * m.per_page
+pub written_sound : (m : PoolMemory) (order : List ℕ) (f : ℕ) (page : List ℕ) → IsSound m order → length page ≡ 4096 * m.per_page
     → IsSound (record { frames = slice_set m.frames f page; place = m.place; spare = m.spare; per_page = m.per_page }) order
 written_sound m order f page s size = record {
   places = s.places ∙ sym same;

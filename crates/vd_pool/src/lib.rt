@@ -8,4 +8,4 @@
 mod page;
 mod pool;
 
-pub use pool::{Frame, Pool, SLOT};
+pub use pool::{Frame, Pool};

@@ -39,14 +39,6 @@ impl Page {
         self.bytes.fill(0);
     }
 
-    /// The byte at an index.
-    pub fn at(&self, at: usize) -> u8
-        requires { at < length self.now }
-        ensures { result ≡ slice_index self.now at }
-    {
-        self.bytes[at]
-    }
-
     /// Fills a slice with the bytes from an index on.
     pub fn read(&self, at: usize, out: &mut [u8])
         requires { at + length out.old ≤ length self.now }

@@ -1,14 +1,12 @@
 //! A pool of frames, which all devices share.
 
-ghost use Rattle.std.specs.Prelude.{◌≡◌, ◌+◌, ◌-◌, ◌*◌, ◌<◌, ◌≤◌, ◌==◌, ◌||◌, ℕ, [], ◌∷◌, true, false, OnOk, OnErr, IfOk, length, slice_index};
-ghost use Rattle.vd_pool.specs.Memory.{Memory, frame_size, is_out, byte_of, Takes, Gives, Writes, Clears, Grows, Adds};
+ghost use Rattle.std.specs.Prelude.{◌≡◌, ◌+◌, ◌-◌, ◌*◌, ◌<◌, ◌≤◌, ◌==◌, ◌||◌, ℕ, true, false, OnOk, OnErr, IfOk, length, slice_index};
+ghost use Rattle.vd_pool.specs.Memory.{PoolMemory, frame_size, is_out, byte_of, Takes, Gives, Writes, Clears, Grows, Adds};
 
 use crate::page::Page;
 use std::alloc::{AllocError, Global};
 use std::marker::Model;
-
-/// The bytes of a slot. A frame has a whole number of slots.
-pub const SLOT: usize = 4096;
+use vd_num::SLOT_SIZE;
 
 /// A frame that was taken from a pool. It can't be dropped: it has to be given back.
 pub struct Frame {
@@ -38,9 +36,9 @@ pub struct Pool {
 }
 
 impl Model for Pool {
-    ghost use Rattle.vd_pool.specs.Memory.{Memory, IsSound};
+    ghost use Rattle.vd_pool.specs.Memory.{PoolMemory, IsSound};
 
-    ghost Value = { Memory };
+    ghost Value = { PoolMemory };
 
     ghost view = { λ p. record { frames = p.pages.items; place = p.place.items; spare = p.spare; per_page = p.per_page } };
 
@@ -105,7 +103,7 @@ impl Pool {
         ensures ok { IfOk result (λ f. Adds f self.old self.new) }
         ensures err { OnErr result (self.new ≡ self.old) }
     {
-        let page = Page::new(self.alloc, SLOT * self.per_page as usize)?;
+        let page = Page::new(self.alloc, SLOT_SIZE as usize * self.per_page as usize)?;
         let number = self.pages.len();
         self.order.reserve(1)?;
         self.place.reserve(1)?;
@@ -165,25 +163,6 @@ impl Pool {
         self.spare = spare + 1;
     }
 
-    /// The byte of a frame at an index.
-    pub fn load(&self, frame: &Frame, at: u32) -> u8
-        requires out { is_out self.now frame.now ≡ true }
-        requires at { at < frame_size self.now }
-        ensures { result ≡ byte_of self.now frame.now at }
-    {
-        let page = &self.pages[frame.number];
-        page.at(at as usize)
-    }
-
-    /// Changes one byte of a frame.
-    pub fn store(&mut self, frame: &Frame, at: u32, byte: u8)
-        requires out { is_out self.old frame.now ≡ true }
-        requires at { at < frame_size self.old }
-        ensures { Writes frame.now at (byte ∷ []) self.old self.new }
-    {
-        self.write(frame, at as usize, &[byte]);
-    }
-
     /// Fills a slice with a frame's bytes from an index on.
     pub fn read(&self, frame: &Frame, at: usize, out: &mut [u8])
         requires out { is_out self.now frame.now ≡ true }
@@ -216,18 +195,22 @@ mod tests {
             let mut pool = Pool::new(rt.alloc(), per_page);
             pool.reserve(1)?;
             assert_eq!(rt; pool.spare(), 1);
-            let last = 4096 * per_page - 1;
+            let last = SLOT * per_page as usize - 2;
+            let mut bytes = [0; 4];
             let frame = pool.take();
-            pool.store(&frame, 0, 7);
-            pool.store(&frame, last, 8);
-            let stored = (pool.load(&frame, 0), pool.load(&frame, last));
+            pool.write(&frame, 0, b"ab");
+            pool.write(&frame, last, b"cd");
+            pool.read(&frame, 0, &mut bytes[..2]);
+            pool.read(&frame, last, &mut bytes[2..]);
             pool.give(frame);
+            let mut zeros = [1; 4];
             let frame = pool.take();
-            let again = (pool.load(&frame, 0), pool.load(&frame, last));
+            pool.read(&frame, 0, &mut zeros[..2]);
+            pool.read(&frame, last, &mut zeros[2..]);
             let spare = pool.spare();
             pool.give(frame);
-            assert_eq!(rt; stored, (7, 8));
-            assert_eq!(rt; again, (0, 0));
+            assert_eq!(rt; &bytes, b"abcd");
+            assert_eq!(rt; zeros, [0; 4]);
             assert_eq!(rt; spare, 0);
         }
         Ok(())

@@ -1,10 +1,9 @@
-use Rattle.std.proofs.Common.{◌≡◌, ℕ, ◌-◌, ◌+◌, ◌*◌, ◌/◌, ◌≤◌, ◌<◌, length, arith, if◌then◌else◌, ◌&&◌, not, nat_lt, false, true, ap, ◌∙◌}
+use Rattle.std.proofs.Common.{◌-◌, ◌+◌, ◌*◌, arith, if◌then◌else◌, false, ap, ◌∙◌}
 use Rattle.std.specs.List.{slice_index, slice_index_or}
 use Rattle.vd_num.specs.Number.{is_within}
 use Rattle.vd_bounce.specs.Frames.{frame_byte}
 use Rattle.vd_bounce.proofs.Pages.{area_then, area_else}
 use Rattle.std.proofs.lemmas.Grind.{common_steps}
-use Rattle.std.proofs.lemmas.Bool.Decides.{nat_tests}
 use Rattle.vd_bounce.proofs.Kept.{keeps_more}
 use Rattle.vd_bounce.proofs.rows.adopt.Goals.{then-in_use-page, else-in_use-page}
 use Rattle.vd_bounce.proofs.rows.adopt.Goals as goal

@@ -1,4 +1,4 @@
-use Rattle.std.proofs.Common.{◌≡◌, vec_len}
+use Rattle.std.proofs.Common.{vec_len}
 use Rattle.vd_bounce.specs.Frames.{Keeps}
 use Rattle.vd_bounce.proofs.rows.discard.Given as goal
 

@@ -1,9 +1,9 @@
-use Rattle.std.proofs.Common.{◌≡◌, ◌+◌, ◌-◌, ◌*◌, ◌/◌, ◌%◌, ◌<◌, ◌≤◌, length, take, drop, Some, arith, ap, sym, subst, ◌∙◌, if◌then◌else◌}
+use Rattle.std.proofs.Common.{◌≡◌, ◌+◌, ◌-◌, ◌/◌, ◌%◌, ◌≤◌, length, take, drop, Some, arith, ap, subst, ◌∙◌, if◌then◌else◌}
 use Rattle.std.specs.List.{slice_index}
 use Rattle.std.proofs.lemmas.Grind.{common_steps}
 use Rattle.std.proofs.lemmas.List.{length-take, length-drop}
 use Rattle.vd_num.specs.Number.{is_within}
-use Rattle.vd_pool.specs.Memory.{Writes, frame_size}
+use Rattle.vd_pool.specs.Memory.{Writes}
 use Rattle.vd_bounce.specs.Frames.{frame_of}
 use Rattle.vd_bounce.proofs.Kept.{keeps_more, wrote_kept}
 use Rattle.vd_bounce.proofs.Pages.{one_more, index_small}
@@ -20,7 +20,8 @@ loop-done-preserved c =
     let holds = c.loop-done.invariant.kept.holds in
     let rest : c.loop-done.done + n - c.loop-done.done ≡ n = omega arith in
     let wrote : Writes c.in-Some.frame (at % size) text c.loop-done.pool c.write.new.self =
-    subst (λ k. Writes c.in-Some.frame (at % size) (take k (drop c.loop-done.done c.args.bytes.now)) c.loop-done.pool c.write.new.self) rest c.write.ensures in
+    subst (λ f. Writes c.in-Some.frame f text c.loop-done.pool c.write.new.self) c.offset_in-from.ensures
+    (subst (λ k. Writes c.in-Some.frame c.offset_in-from.result (take k (drop c.loop-done.done c.args.bytes.now)) c.loop-done.pool c.write.new.self) rest c.write.ensures) in
     let here : frame_of frames (at / size) ≡ Some c.in-Some.frame = grind (arith, common_steps) in
     let small = index_small size at c.requires.some in
     let fits : at % size + length text ≤ size = simp (length-take, length-drop) (omega arith) in

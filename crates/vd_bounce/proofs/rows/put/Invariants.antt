@@ -1,4 +1,4 @@
-use Rattle.std.proofs.Common.{◌≡◌, ℕ, ◌-◌, ◌+◌, ◌≤◌, length, if◌then◌else◌}
+use Rattle.std.proofs.Common.{◌≡◌, ℕ, ◌-◌, ◌≤◌, length, if◌then◌else◌}
 use Rattle.std.specs.List.{slice_index}
 use Rattle.vd_num.specs.Number.{is_within}
 use Rattle.vd_bounce.specs.Frames.{frame_byte, Keeps}

@@ -1,4 +1,4 @@
-use Rattle.std.proofs.Common.{◌≡◌, ℕ, ◌-◌, ◌+◌, ◌*◌, ◌/◌, ◌≤◌, ◌<◌, length, if◌then◌else◌, nat_lt, false, true}
+use Rattle.std.proofs.Common.{◌≡◌, ℕ, ◌+◌, ◌/◌, ◌<◌, if◌then◌else◌, nat_lt, false}
 use Rattle.std.specs.Prelude.{is_some}
 use Rattle.std.specs.List.{slice_index, slice_index_or}
 use Rattle.vd_bounce.specs.Frames.{frame_byte, frame_of, Keeps}

@@ -1,7 +1,7 @@
 use Rattle.std.proofs.Common.{◌≡◌, ℕ, ◌+◌, ◌-◌, ◌*◌, ◌/◌, ◌%◌, ◌<◌, ◌≤◌, Bool, true, false, arith, ap, subst, sym, ◌∙◌, inl, inr, length}
 use Rattle.std.proofs.lemmas.Grind.{common_steps}
 use Rattle.std.proofs.lemmas.Bool.Decides.{leb_tells}
-use Rattle.vd_bounce.specs.Bounce.{is_present, page_size}
+use Rattle.vd_bounce.specs.Bounce.{is_page_present, page_size}
 use Rattle.vd_bounce.proofs.Pages.{split, page_room, index_small}
 use Rattle.vd_domain.proofs.Failing.{first_failing_here, first_failing_past, same_page}
 use Rattle.vd_domain.proofs.pages.first_missing.Goals as goal
@@ -10,7 +10,7 @@ use Rattle.vd_domain.proofs.pages.first_missing.Goals.{then-page-count-via-then-
 pub loop-left-preserved : goal.loop-left-preserved
 loop-left-preserved c =
     let size : ℕ = page_size c.args.map.now in
-    let P : ℕ → Bool = λ a. is_present c.args.map.now (a / size) in
+    let P : ℕ → Bool = λ a. is_page_present c.args.map.now (a / size) in
     let g = c.per_page.ensures.value in
     let some = c.per_page.ensures.some in
     let here : P c.loop-left.at ≡ true = grind (arith, common_steps) in
@@ -24,7 +24,7 @@ loop-left-preserved c =
     let small : c.loop-left.at % size < size = index_small size c.loop-left.at (omega arith) in
     let ends : c.loop-left.at + c.min-here.result ≤ size * length c.args.map.now.frames = omega arith in
     let all : (i : ℕ) → c.loop-left.at ≤ i → i < c.loop-left.at + c.min-here.result → P i ≡ true =
-    (λ i low high. ap (λ page. is_present c.args.map.now page) (same_page size c.loop-left.at i (omega arith) low (omega arith)) ∙ here) in
+    (λ i low high. ap (λ page. is_page_present c.args.map.now page) (same_page size c.loop-left.at i (omega arith) low (omega arith)) ∙ here) in
     record {
       sum = (let sum = c.loop-left.invariant.sum in omega (arith, sum, fits));
       inside = (λ moved. ends);
@@ -39,7 +39,7 @@ loop-left-preserved c =
 pub returns-then-page-count-clause-first : goal.returns-then-page-count-clause-first
 returns-then-page-count-clause-first c =
     let size : ℕ = page_size c.args.map.now in
-    let P : ℕ → Bool = λ a. is_present c.args.map.now (a / size) in
+    let P : ℕ → Bool = λ a. is_page_present c.args.map.now (a / size) in
     let g = c.per_page.ensures.value in
     let missing : P c.loop-left.at ≡ false =
     elim c.then-page-count.branch [

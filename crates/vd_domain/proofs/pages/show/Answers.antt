@@ -1,5 +1,5 @@
 use Rattle.std.proofs.Common.{◌≡◌, ◌*◌, ◌/◌, ◌<◌, arith, ap, ◌∙◌, length, ◌||◌, true}
-use Rattle.vd_bounce.specs.Bounce.{is_present, page_size}
+use Rattle.vd_bounce.specs.Bounce.{is_page_present, page_size}
 use Rattle.vd_num.specs.Number.{is_within}
 use Rattle.vd_bounce.proofs.Pages.{within_high}
 use Rattle.vd_domain.proofs.Present.{held_present}
@@ -12,6 +12,6 @@ put-requires-clause-there c = λ a low high.
     let top = within_high c.args.pages.first c.args.pages.count (a / page_size c.args.map.now) covered in
     let range = c.requires.range in
     let page : a / page_size c.args.map.now < length c.args.map.now.frames = omega arith in
-    ap (λ n. is_present c.hold.new.map (a / n)) size
+    ap (λ n. is_page_present c.hold.new.map (a / n)) size
     ∙ held_present c.args.map.now c.hold.new.map c.args.pages.first c.args.pages.count c.hold.ensures.same c.hold.ensures.frames (a / page_size c.args.map.now) page
-    ∙ ap (λ b. b || is_present c.args.map.now (a / page_size c.args.map.now)) covered
+    ∙ ap (λ b. b || is_page_present c.args.map.now (a / page_size c.args.map.now)) covered

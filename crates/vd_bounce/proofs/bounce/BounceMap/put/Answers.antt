@@ -1,8 +1,8 @@
-use Rattle.std.proofs.Common.{◌≡◌, ◌+◌, ◌*◌, ◌<◌, ◌≤◌, ◌^◌, length, arith, sym, subst, ap, []}
+use Rattle.std.proofs.Common.{◌≡◌, ◌<◌, length, arith, sym, subst, ap, []}
 use Rattle.std.specs.Prelude.{unwrap_or}
 use Rattle.std.proofs.lemmas.Grind.{common_steps}
 use Rattle.std.specs.Option.{option_map}
-use Rattle.vd_bounce.specs.Bounce.{Bounce, bounce_size, IsThere}
+use Rattle.vd_bounce.specs.Bounce.{Bounce, IsThere}
 use Rattle.vd_bounce.proofs.There.{there_end}
 use Rattle.vd_bounce.proofs.bounce.BounceMap.put.Goals as goal
 

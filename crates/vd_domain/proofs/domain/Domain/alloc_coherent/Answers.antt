@@ -1,12 +1,12 @@
 use Rattle.std.proofs.Common.{◌≡◌, ℕ, refl, List, ◌+◌, ◌-◌, ◌*◌, ◌/◌, ◌<◌, ◌≤◌, arith, ap, sym, subst, ◌∙◌, [], ◌∷◌, ◌++◌, Some, None, ◌||◌, length}
 use Rattle.std.specs.Prelude.{is_some}
 use Rattle.vd_num.specs.Number.{is_within, pages_of}
-use Rattle.vd_pool.specs.Memory.{Memory}
+use Rattle.vd_pool.specs.Memory.{PoolMemory}
 use Rattle.vd_bounce.specs.Frames.{frame_of}
 use Rattle.vd_iova.specs.Space.{taken_of}
 use Rattle.vd_model.specs.Setting.{Setting}
 use Rattle.vd_model.specs.Acts.{Act, Coherent, Driver, Region_made}
-use Rattle.vd_model.specs.Place.{place_of, taken}
+use Rattle.vd_model.specs.Place.{place_of, taken_slots}
 use Rattle.vd_domain.specs.Numbered.{Numbered}
 use Rattle.vd_domain.specs.declared.streaming.Extent.{Extent}
 use Rattle.vd_domain.specs.declared.pages.Pages.{Pages}
@@ -31,7 +31,7 @@ returns-in-Err-clause-full c = λ x acts m s some. (
 )
 
 -- the place that was taken is the one that the acts leave
-placed : (c : In-Ok) (x : Setting) (acts : List Act) (m : Memory) → Stands x acts c.args.self.now m → place_of (taken acts) (pages_of c.args.len) x.bounce x.iova ≡ Some c.in-Ok.slot
+placed : (c : In-Ok) (x : Setting) (acts : List Act) (m : PoolMemory) → Stands x acts c.args.self.now m → place_of (taken_slots acts) (pages_of c.args.len) x.bounce x.iova ≡ Some c.in-Ok.slot
 placed c x acts m s =
     sym (high_place x acts _ _ (stands_inside c.self.view_is s) _ _ _ c.self.invariant (pages_of c.args.len))
     ∙ ap (λ n. place_of (taken_of c.self.inside.high) n c.self.inside.high.first c.self.inside.high.«end») (sym c.pages-n.ensures.value)

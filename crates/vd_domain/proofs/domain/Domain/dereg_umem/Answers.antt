@@ -1,28 +1,13 @@
-use Rattle.std.proofs.Common.{◌≡◌, ap, sym, subst, ◌∙◌, true, arith}
+use Rattle.std.proofs.Common.{◌≡◌, ap, sym, ◌∙◌, true}
 use Rattle.std.specs.Prelude.{is_some}
-use Rattle.std.proofs.lemmas.Grind.{common_steps}
-use Rattle.vd_bounce.specs.Bounce as bounce
+use Rattle.vd_bounce.specs.Bounce.{bounce_len}
 use Rattle.vd_domain.specs.Held.{Held}
-use Rattle.vd_domain.specs.Stands.{Stands}
-use Rattle.vd_domain.specs.contracts.domain.Domain.{the_view}
-use Rattle.vd_domain.proofs.AreaActs.{area_released, sizes_same}
-use Rattle.vd_domain.proofs.InUse.{flag_is}
-use Rattle.vd_domain.proofs.Presence.{some_map, some_value}
+use Rattle.vd_domain.proofs.AreaActs.{sizes_same}
+use Rattle.vd_domain.proofs.Presence.{some_map}
 use Rattle.vd_domain.proofs.domain.Domain.dereg_umem.Goals as goal
 
 pub returns-clause-ok : goal.returns-clause-ok
 returns-clause-ok c = λ x acts s.
-    let h : Held = the_view c.self.inside in
-    let t : Stands x acts h c.args.pool.now = subst (λ (h : Held). Stands x acts h c.args.pool.now) (sym c.self.view_is) s in
-    let there : is_some c.self.inside.bounce.user ≡ true = grind (arith, common_steps) in
-    let user = some_value c.self.inside.bounce.user there in
-    let zero : c.args.iova ≡ 0 = grind (arith, common_steps) in
-    let whole : c.args.size ≡ bounce.bounce_size c.self.inside.bounce = grind (arith, common_steps) in (
-      ap is_some t.registered ∙ some_map _ c.self.inside.bounce.user ∙ there,
-      zero,
-      whole ∙ sym (sizes_same x h t.bounce),
-      area_released x acts h c.release_user.new.self c.args.pool.now c.release_user.new.pool user.0 c.in_use.result.now t user.1
-          (c.self.invariant.room user.0 user.1) c.release_user.ensures.same
-          (flag_is x acts h c.args.pool.now c.self.inside.low c.self.inside.high c.self.inside.uses c.in_use.result.now t c.self.invariant c.in_use.ensures.flags)
-          c.release_user.ensures.present c.release_user.ensures.bounce c.release_user.ensures.area,
-    )
+    let there : is_some c.args.self.now.bounce.user ≡ true = ap (λ (h : Held). is_some h.bounce.user) (sym c.self.view_is) ∙ sym c.is_registered.ensures ∙ c.if-not-is_registered.false in
+    let whole : c.args.size ≡ bounce_len c.args.self.now.bounce = c.if-size-end_of.false ∙ c.end_of.ensures ∙ ap (λ (h : Held). bounce_len h.bounce) c.self.view_is in
+    (ap is_some s.registered ∙ some_map _ c.args.self.now.bounce.user ∙ there, c.if-iova-ne0.false, whole ∙ sym (sizes_same x c.args.self.now s.bounce), c.release.ensures.ok x acts s)

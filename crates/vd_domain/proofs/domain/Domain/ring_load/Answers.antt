@@ -1,5 +1,5 @@
 use Rattle.std.proofs.Common.{◌≡◌, ◌+◌, ◌-◌, ◌<◌, ◌≤◌, arith, ap, sym, subst, ◌∙◌, length}
-use Rattle.vd_bounce.specs.Bounce.{IsThere, bounce_size, value, home}
+use Rattle.vd_bounce.specs.Bounce.{IsThere, bounce_len, value, home_place}
 use Rattle.vd_domain.specs.Held.{Held}
 use Rattle.vd_domain.proofs.Opened.{stands_inside}
 use Rattle.vd_domain.proofs.Rings.{ring_loaded}
@@ -10,17 +10,17 @@ returns-in-Some-clause-ok c = λ x acts m s. sym (c.in-Some.ensures.first x acts
 
 pub get-requires-clause-there : goal.get-requires-clause-there
 get-requires-clause-there c =
-    let start : c.saturating_sub.result ≡ c.args.at - bounce_size c.self.inside.bounce = c.saturating_sub.ensures ∙ ap (λ e. c.args.at - e) c.end_of-end.ensures in
+    let start : c.saturating_sub.result ≡ c.args.at - bounce_len c.self.inside.bounce = c.saturating_sub.ensures ∙ ap (λ e. c.args.at - e) c.end_of-end.ensures in
     subst (λ k. IsThere c.self.inside.shared k (length c.args.out.now)) (sym start)
-    (subst (λ (h : Held). IsThere h.shared (c.args.at - bounce_size h.bounce) (length c.args.out.now)) (sym c.self.view_is) c.in_default.ensures.there)
+    (subst (λ (h : Held). IsThere h.shared (c.args.at - bounce_len h.bounce) (length c.args.out.now)) (sym c.self.view_is) c.in_default.ensures.there)
 
 pub returns-clause-ok : goal.returns-clause-ok
 returns-clause-ok c = λ x acts m s.
-    let start : c.saturating_sub.result ≡ c.args.at - bounce_size c.self.inside.bounce = c.saturating_sub.ensures ∙ ap (λ e. c.args.at - e) c.end_of-end.ensures in
-    let above : 0 < length c.args.out.now → bounce_size c.self.inside.bounce ≤ c.args.at =
-    subst (λ (h : Held). 0 < length c.args.out.now → bounce_size h.bounce ≤ c.args.at) (sym c.self.view_is) c.in_default.ensures.above in
+    let start : c.saturating_sub.result ≡ c.args.at - bounce_len c.self.inside.bounce = c.saturating_sub.ensures ∙ ap (λ e. c.args.at - e) c.end_of-end.ensures in
+    let above : 0 < length c.args.out.now → bounce_len c.self.inside.bounce ≤ c.args.at =
+    subst (λ (h : Held). 0 < length c.args.out.now → bounce_len h.bounce ≤ c.args.at) (sym c.self.view_is) c.in_default.ensures.above in
     let none = sym (c.in_default.ensures.first x acts m s) in (
       none,
       ring_loaded x acts _ m (stands_inside c.self.view_is s) _ _ _ c.self.invariant c.args.at (length c.args.out.now) c.get.new.out (omega arith) above none
-          (λ i below. c.get.ensures i below ∙ ap (λ k. value c.self.inside.shared c.self.inside.store (home c.self.inside.shared (k + i))) start),
+          (λ i below. c.get.ensures i below ∙ ap (λ k. value c.self.inside.shared c.self.inside.store (home_place c.self.inside.shared (k + i))) start),
     )

@@ -5,32 +5,23 @@ use Rattle.vd_iova.specs.Space.{taken_at}
 use Rattle.vd_model.specs.Acts.{Streaming}
 use Rattle.vd_model.specs.Puts.{is_from_device, bus_bytes}
 use Rattle.vd_model.specs.Live.{iova_of}
-use Rattle.vd_domain.specs.Lists.{mapping_at, mappings_of, regions_of}
+use Rattle.vd_domain.specs.Lists.{mapping_at}
 use Rattle.vd_domain.specs.Held.{mapping_of}
-use Rattle.vd_domain.proofs.Entries.{kept_found, kept_missing}
 use Rattle.vd_domain.proofs.Fits.{live_inside, live_there}
 use Rattle.vd_domain.proofs.Steps.{fetched}
-use Rattle.vd_domain.proofs.Opened.{stands_inside, found_outside, not_found, same_found}
+use Rattle.vd_domain.specs.contracts.domain.Domain.{the_view}
+use Rattle.vd_domain.proofs.Opened.{stands_inside, found_inside, not_found, same_found}
 use Rattle.vd_domain.proofs.domain.Domain.sync_cpu.Goals as goal
 use Rattle.vd_domain.proofs.domain.Domain.sync_cpu.Goals.{In-Some, In-None}
 
 missing : (c : In-None) → mapping_of c.args.self.now c.args.number ≡ None
-missing c = found_outside c.args.number None c.self.view_is (kept_missing mapping_at (λ (m : Streaming). m.number) (λ e. refl) c.args.number c.self.inside.mappings.entries c.in-None.ensures)
+missing c = c.in-None.ensures.live
 
-found : (c : In-Some) → mapping_of (record {
-  bounce = c.self.inside.bounce;
-  shared = c.self.inside.shared;
-  store = c.self.inside.store;
-  live = mappings_of c.self.inside.mappings.entries;
-  maps = c.self.inside.mappings.made;
-  regions = regions_of c.self.inside.regions.entries;
-  made = c.self.inside.regions.made;
-  is_shown = c.self.inside.is_shown;
-}) c.args.number ≡ Some (mapping_at (c.args.number, c.in-Some.m))
-found c = kept_found mapping_at (λ (m : Streaming). m.number) (λ e. refl) c.args.number c.self.inside.mappings.entries c.in-Some.m c.in-Some.ensures
+found : (c : In-Some) → mapping_of (the_view c.self.inside) c.args.number ≡ Some (mapping_at (c.args.number, c.in-Some.m))
+found c = found_inside c.args.number (mapping_at (c.args.number, c.in-Some.m)) c.self.view_is c.in-Some.ensures.live
 
 there : (c : In-Some) → mapping_of c.args.self.now c.args.number ≡ Some (mapping_at (c.args.number, c.in-Some.m))
-there c = found_outside c.args.number (Some (mapping_at (c.args.number, c.in-Some.m))) c.self.view_is (found c)
+there c = c.in-Some.ensures.live
 
 is_mapping : (c : In-Some) (m : Streaming) → mapping_of c.args.self.now c.args.number ≡ Some m → m ≡ mapping_at (c.args.number, c.in-Some.m)
 is_mapping c m e = same_found c.args.self.now c.args.number m (mapping_at (c.args.number, c.in-Some.m)) e (there c)
@@ -61,9 +52,9 @@ overflow_mul-m c =
     let small = c.self.invariant.small in
     omega arith
 
-pub get-requires-2-clause-there : goal.get-requires-2-clause-there
-get-requires-2-clause-there c =
-    let i = (goal.at.get-requires-2-clause-there c).In-Some in
+pub get-requires-clause-there : goal.get-requires-clause-there
+get-requires-clause-there c =
+    let i = (goal.at.get-requires-clause-there c).In-Some in
     let l : length c.args.out.now ≡ c.in-Some.m.want.len = c.requires.room (mapping_at (c.args.number, c.in-Some.m)) (there i) in
     λ a low high. (live_there _ _ _ _ c.self.invariant c.args.number (mapping_at (c.args.number, c.in-Some.m)) (found i) a low (omega arith)).1
 
@@ -83,7 +74,7 @@ returns-clause-given c = λ x acts m e s.
     let i = (goal.at.returns-clause-given c).In-Some in
     let l : length c.args.out.now ≡ c.in-Some.m.want.len = c.requires.room (mapping_at (c.args.number, c.in-Some.m)) (there i) in
     let is = is_mapping i m e in
-    fetched x acts _ _ (stands_inside c.self.view_is s) _ _ _ c.self.invariant (4096 * c.in-Some.m.slot) c.in-Some.m.want.len c.get-2.new.out (omega arith)
+    fetched x acts _ _ (stands_inside c.self.view_is s) _ _ _ c.self.invariant (4096 * c.in-Some.m.slot) c.in-Some.m.want.len c.get.new.out (omega arith)
     (live_there _ _ _ _ c.self.invariant c.args.number (mapping_at (c.args.number, c.in-Some.m)) (found i))
-    (λ j below. c.get-2.ensures j (omega arith))
+    (λ j below. c.get.ensures j (omega arith))
     ∙ sym (ap (λ (k : Streaming). bus_bytes x.per_page acts (iova_of k) k.want.len) is)

@@ -8,30 +8,21 @@ use Rattle.vd_domain.specs.Lists.{mapping_at, mappings_of, regions_of}
 use Rattle.vd_domain.specs.Held.{Held, mapping_of}
 use Rattle.vd_domain.specs.Stands.{Stands}
 use Rattle.vd_domain.specs.Handed.{IsOf}
-use Rattle.vd_domain.proofs.Entries.{kept_found, kept_missing}
 use Rattle.vd_domain.proofs.Fits.{live_inside, live_there}
 use Rattle.vd_domain.proofs.Steps.{synced}
-use Rattle.vd_domain.proofs.Opened.{stands_inside, found_outside, not_found, same_found}
+use Rattle.vd_domain.specs.contracts.domain.Domain.{the_view}
+use Rattle.vd_domain.proofs.Opened.{stands_inside, found_inside, not_found, same_found}
 use Rattle.vd_domain.proofs.domain.Domain.sync_device.Goals as goal
 use Rattle.vd_domain.proofs.domain.Domain.sync_device.Goals.{In-Some, In-None}
 
 missing : (c : In-None) → mapping_of c.args.self.now c.args.number ≡ None
-missing c = found_outside c.args.number None c.self.view_is (kept_missing mapping_at (λ (m : Streaming). m.number) (λ e. refl) c.args.number c.self.inside.mappings.entries c.in-None.ensures)
+missing c = c.in-None.ensures.live
 
-found : (c : In-Some) → mapping_of (record {
-  bounce = c.self.inside.bounce;
-  shared = c.self.inside.shared;
-  store = c.self.inside.store;
-  live = mappings_of c.self.inside.mappings.entries;
-  maps = c.self.inside.mappings.made;
-  regions = regions_of c.self.inside.regions.entries;
-  made = c.self.inside.regions.made;
-  is_shown = c.self.inside.is_shown;
-}) c.args.number ≡ Some (mapping_at (c.args.number, c.in-Some.m))
-found c = kept_found mapping_at (λ (m : Streaming). m.number) (λ e. refl) c.args.number c.self.inside.mappings.entries c.in-Some.m c.in-Some.ensures
+found : (c : In-Some) → mapping_of (the_view c.self.inside) c.args.number ≡ Some (mapping_at (c.args.number, c.in-Some.m))
+found c = found_inside c.args.number (mapping_at (c.args.number, c.in-Some.m)) c.self.view_is c.in-Some.ensures.live
 
 there : (c : In-Some) → mapping_of c.args.self.now c.args.number ≡ Some (mapping_at (c.args.number, c.in-Some.m))
-there c = found_outside c.args.number (Some (mapping_at (c.args.number, c.in-Some.m))) c.self.view_is (found c)
+there c = c.in-Some.ensures.live
 
 is_mapping : (c : In-Some) (m : Streaming) → mapping_of c.args.self.now c.args.number ≡ Some m → m ≡ mapping_at (c.args.number, c.in-Some.m)
 is_mapping c m e = same_found c.args.self.now c.args.number m (mapping_at (c.args.number, c.in-Some.m)) e (there c)

@@ -9,28 +9,28 @@ use Rattle.vd_domain.specs.declared.streaming.Extent.{Extent}
 use Rattle.vd_domain.specs.Lists.{region_at, regions_of}
 use Rattle.vd_domain.specs.Held.{Held, bounce_slots, coherent_of, region_holds}
 use Rattle.vd_domain.specs.contracts.domain.Domain.{the_view}
-use Rattle.vd_domain.proofs.Entries.{kept_found, kept_missing, kept_fewer}
+use Rattle.vd_domain.proofs.Entries.{kept_fewer}
 use Rattle.vd_domain.proofs.Holdings.{Loses}
 use Rattle.vd_domain.proofs.Opened.{stands_inside}
-use Rattle.vd_domain.proofs.Sharing.{stands_regions, fit_regions, region_inside_of, region_outside, same_region, region_lies, RegionLies}
+use Rattle.vd_domain.proofs.Sharing.{stands_regions, fit_regions, region_inside_of, same_region, region_lies, RegionLies}
 use Rattle.vd_domain.proofs.Ended.{others_of, ended_fit, undone, last_less}
 use Rattle.vd_domain.proofs.domain.Domain.undo_coherent.Goals as goal
 use Rattle.vd_domain.proofs.domain.Domain.undo_coherent.Goals.{In-Some, In-None, After-undo}
 
 missing : (c : In-None) → coherent_of c.args.self.now c.args.number ≡ None
-missing c = region_outside c.args.number None c.self.view_is (kept_missing region_at (λ (r : Coherent). r.number) (λ e. refl) c.args.number c.self.inside.regions.entries c.in-None.ensures)
+missing c = c.in-None.ensures.live
 
 abbrev ended : (c : In-Some) → Coherent
 ended c = region_at (c.args.number, c.in-Some.region)
 
 found : (c : In-Some) → coherent_of (the_view c.self.inside) c.args.number ≡ Some (ended c)
-found c = kept_found region_at (λ (r : Coherent). r.number) (λ e. refl) c.args.number c.self.inside.regions.entries c.in-Some.region c.in-Some.ensures
+found c = region_inside_of c.args.number (ended c) c.self.view_is c.in-Some.ensures.live
 
 lies : (c : In-Some) → RegionLies (the_view c.self.inside) c.self.inside.high (ended c)
 lies c = region_lies (the_view c.self.inside) c.self.inside.low c.self.inside.high c.self.inside.uses c.self.invariant c.args.number (ended c) (found c)
 
 is_region : (c : In-Some) (r : Coherent) → coherent_of c.args.self.now c.args.number ≡ Some r → r ≡ ended c
-is_region c r e = same_region c.args.self.now c.args.number r (ended c) e (region_outside c.args.number (Some (ended c)) c.self.view_is (found c))
+is_region c r e = same_region c.args.self.now c.args.number r (ended c) e c.in-Some.ensures.live
 
 pub give_back-requires-clause-low : goal.give_back-requires-clause-low
 give_back-requires-clause-low c = (lies (goal.at.give_back-requires-clause-low c).In-Some).begins

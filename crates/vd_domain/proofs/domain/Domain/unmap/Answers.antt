@@ -10,16 +10,17 @@ use Rattle.vd_domain.specs.Numbered.{Numbered}
 use Rattle.vd_domain.specs.declared.streaming.Bounced.{Bounced}
 use Rattle.vd_domain.specs.Lists.{mapping_at, mappings_of, regions_of}
 use Rattle.vd_domain.specs.Held.{Held, mapping_of, mapping_holds}
-use Rattle.vd_domain.proofs.Entries.{kept_found, kept_missing, kept_fewer}
+use Rattle.vd_domain.proofs.Entries.{kept_fewer}
 use Rattle.vd_domain.proofs.Holdings.{Loses}
 use Rattle.vd_domain.proofs.Fits.{live_inside, live_there, live_counted, unmapped_fit}
 use Rattle.vd_domain.proofs.Steps.{fetched, unmapped}
-use Rattle.vd_domain.proofs.Opened.{stands_inside, stands_with, fit_with, found_inside, found_outside, not_found, same_found}
+use Rattle.vd_domain.specs.contracts.domain.Domain.{the_view}
+use Rattle.vd_domain.proofs.Opened.{stands_inside, stands_with, fit_with, found_inside, not_found, same_found}
 use Rattle.vd_domain.proofs.domain.Domain.unmap.Goals as goal
 use Rattle.vd_domain.proofs.domain.Domain.unmap.Goals.{In-Some, In-None, After-pages, After-pages_met, After-remove, then-gives, else-gives}
 
 missing : (c : In-None) → mapping_of c.args.self.now c.args.number ≡ None
-missing c = found_outside c.args.number None c.self.view_is (kept_missing mapping_at (λ (m : Streaming). m.number) (λ e. refl) c.args.number c.self.inside.mappings.entries c.in-None.ensures)
+missing c = c.in-None.ensures.live
 
 pub returns-in-None-clause-none : goal.returns-in-None-clause-none
 returns-in-None-clause-none c = ((λ _. missing c), (λ _. refl))
@@ -30,23 +31,14 @@ returns-in-None-clause-ok c = λ x acts m e s. absurd (not_found {m = m} (sym (m
 pub returns-in-None-clause-given : goal.returns-in-None-clause-given
 returns-in-None-clause-given c = λ x acts m e s d. absurd (not_found {m = m} (sym (missing c) ∙ e))
 
-found : (c : In-Some) → mapping_of (record {
-  bounce = c.self.inside.bounce;
-  shared = c.self.inside.shared;
-  store = c.self.inside.store;
-  live = mappings_of c.self.inside.mappings.entries;
-  maps = c.self.inside.mappings.made;
-  regions = regions_of c.self.inside.regions.entries;
-  made = c.self.inside.regions.made;
-  is_shown = c.self.inside.is_shown;
-}) c.args.number ≡ Some (mapping_at (c.args.number, c.in-Some.m))
-found c = kept_found mapping_at (λ (m : Streaming). m.number) (λ e. refl) c.args.number c.self.inside.mappings.entries c.in-Some.m c.in-Some.ensures
+found : (c : In-Some) → mapping_of (the_view c.self.inside) c.args.number ≡ Some (mapping_at (c.args.number, c.in-Some.m))
+found c = found_inside c.args.number (mapping_at (c.args.number, c.in-Some.m)) c.self.view_is c.in-Some.ensures.live
 
 lies : (c : In-Some) → (0 < pages_of c.in-Some.m.want.len) × (c.in-Some.m.slot + pages_of c.in-Some.m.want.len ≤ c.self.inside.bounce.per_page * length c.self.inside.bounce.frames) × (0 < taken_at c.self.inside.low c.in-Some.m.slot)
 lies c = live_inside _ _ _ _ c.self.invariant c.args.number (mapping_at (c.args.number, c.in-Some.m)) (found c)
 
 long : (c : In-Some) → length c.args.out.now ≡ c.in-Some.m.want.len
-long c = c.requires.room (mapping_at (c.args.number, c.in-Some.m)) (found_outside c.args.number (Some (mapping_at (c.args.number, c.in-Some.m))) c.self.view_is (found c))
+long c = c.requires.room (mapping_at (c.args.number, c.in-Some.m)) c.in-Some.ensures.live
 
 pub overflow_mul-m : goal.overflow_mul-m
 overflow_mul-m c =
@@ -56,9 +48,9 @@ overflow_mul-m c =
     let small = c.self.invariant.small in
     omega arith
 
-pub get-requires-then-gives-clause-there : goal.get-requires-then-gives-clause-there
-get-requires-then-gives-clause-there c =
-    let i = (goal.at.get-requires-then-gives-clause-there c).In-Some in
+pub get-requires-clause-there : goal.get-requires-clause-there
+get-requires-clause-there c =
+    let i = (goal.at.get-requires-clause-there c).In-Some in
     let l = long i in
     λ a low high. (live_there _ _ _ _ c.self.invariant c.args.number (mapping_at (c.args.number, c.in-Some.m)) (found i) a low (omega arith)).1
 
@@ -131,7 +123,7 @@ invariant_of-self c =
 
 pub returns-clause-none : goal.returns-clause-none
 returns-clause-none c =
-    let there = found_outside c.args.number (Some (mapping_at (c.args.number, c.in-Some.m))) c.self.view_is (found (goal.at.returns-clause-none c).In-Some) in
+    let there = (goal.at.returns-clause-none c).In-Some.in-Some.ensures.live in
     ((λ e. absurd (true≢false (sym e))), (λ e. absurd (not_found {m = mapping_at (c.args.number, c.in-Some.m)} (sym e ∙ there))))
 
 pub returns-clause-ok : goal.returns-clause-ok
@@ -151,7 +143,7 @@ returns-clause-ok c = λ x acts m e s.
     (unmapped x acts h c.args.pool.now (stands_inside c.self.view_is s) c.self.inside.low c.self.inside.high c.self.inside.uses c.self.invariant c.args.number m (found_inside c.args.number m c.self.view_is e))
 
 is_mapping : (c : In-Some) (m : Streaming) → mapping_of c.args.self.now c.args.number ≡ Some m → m ≡ mapping_at (c.args.number, c.in-Some.m)
-is_mapping c m e = same_found c.args.self.now c.args.number m (mapping_at (c.args.number, c.in-Some.m)) e (found_outside c.args.number (Some (mapping_at (c.args.number, c.in-Some.m))) c.self.view_is (found c))
+is_mapping c m e = same_found c.args.self.now c.args.number m (mapping_at (c.args.number, c.in-Some.m)) e c.in-Some.ensures.live
 
 pub returns-clause-given : goal.returns-clause-given
 returns-clause-given c = λ x acts m e s given.
@@ -162,9 +154,9 @@ returns-clause-given c = λ x acts m e s given.
     let bytes : c.if-gives.out ≡ bus_bytes x.per_page acts (4096 * c.in-Some.m.slot) c.in-Some.m.want.len = elim c.if-gives.branch [
       | then-gives w ↦
           (w.out-is
-          ∙ fetched x acts _ _ (stands_inside c.self.view_is s) _ _ _ c.self.invariant (4096 * c.in-Some.m.slot) c.in-Some.m.want.len w.get-then-gives.new.out (omega arith)
+          ∙ fetched x acts _ _ (stands_inside c.self.view_is s) _ _ _ c.self.invariant (4096 * c.in-Some.m.slot) c.in-Some.m.want.len w.get.new.out (omega arith)
           (live_there _ _ _ _ c.self.invariant c.args.number (mapping_at (c.args.number, c.in-Some.m)) (found i))
-          (λ j below. w.get-then-gives.ensures j (omega arith)))
+          (λ j below. w.get.ensures j (omega arith)))
       | else-gives w ↦ absurd (true≢false (sym way ∙ sym c.gives.ensures ∙ w.if-gives.false))
     ] in
     bytes ∙ sym (ap (λ (k : Streaming). bus_bytes x.per_page acts (iova_of k) k.want.len) is)

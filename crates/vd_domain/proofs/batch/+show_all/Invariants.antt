@@ -1,5 +1,0 @@
-use Rattle.std.proofs.Common.{length}
-use Rattle.vd_domain.proofs.batch.+show_all.Given as goal
-
-abbrev pub decreases-show_all : goal.decreases-show_all
-decreases-show_all l = length l.wants.now
