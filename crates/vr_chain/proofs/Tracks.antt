@@ -13,7 +13,7 @@ use Rattle.vd_model.specs.declared.answer.ChainKind.{ChainKind}
 use Rattle.vd_model.specs.declared.answer.ChainKind.TheVariants.{Head, Loop, Next, Order, Shape, Nested, Long}
 use Rattle.vd_model.specs.declared.descriptor.Descriptor.{Descriptor}
 use Rattle.vd_model.specs.declared.descriptor.Position.{Position}
-use Rattle.vd_model.specs.Trace.{Start, first_position, first_kind, is_indirect, has_next, is_among, is_long, is_misshapen, breaks_order, descriptor_at, parts_at, with_part, with_read, fault_at, fault_of, fault_of_read, fault_by, next_position, after_read, position_after, chain_of, Ending, whole, missing, ending_at, ending_by, ending_within, ending_of, IsTrace, Follows, Ends}
+use Rattle.vd_model.specs.Trace.{TraceStart, first_position, first_kind, is_indirect, has_next, is_among, leaves_table, is_long, is_misshapen, breaks_order, descriptor_at, parts_at, with_part, with_part_read, fault_at, fault_of, fault_of_read, fault_by, next_position, after_read, position_after, chain_of, Ending, whole, missing, ending_at, ending_by, ending_within, ending_of, IsTrace, Follows, EndsAs}
 use Rattle.vr_chain.proofs.Passed.{Passed, passed}
 
 -- how many entries of a table aren't marked
@@ -36,7 +36,7 @@ unmarked-set marks i h e =
     omega (arith, s, f)
 
 -- position p, with the marks of its table and the parts before it, is the last of a trace
-pub record Tracks (q : Start) (m : Memory) (p : Position) (marks : List Bool) (parts : List Part) : Type 0 where
+pub record Tracks (q : TraceStart) (m : Memory) (p : Position) (marks : List Bool) (parts : List Part) : Type 0 where
   pub before : List Position
   pub trace : IsTrace q m (p ∷ before)
   pub parts_are : parts ≡ parts_at m before
@@ -71,7 +71,7 @@ mark_first n k i h l =
     mark_one (replicate n false) k i len ∙ ap (λ (b : Bool). k == i || b) (get_or-replicate n i false false l)
 
 -- the head
-pub tracks-start : (q : Start) (m : Memory) (marks : List Bool) → q.head < q.ring.size → marks ≡ set (replicate q.ring.size false) q.head true → Tracks q m (first_position q) marks []
+pub tracks-start : (q : TraceStart) (m : Memory) (marks : List Bool) → q.head < q.ring.size → marks ≡ set (replicate q.ring.size false) q.head true → Tracks q m (first_position q) marks []
 tracks-start q m marks h e = record {
   before = [];
   trace = refl;
@@ -96,7 +96,7 @@ seen_alike n parts a b p d h =
     (alike_at (has_next d) (nat_le p.table.entries d.next) a b (λ e. h (grind (arith, nat_tests))))
 
 -- what the tests say at p
-fault-tracked : (q : Start) (m : Memory) (p : Position) (marks : List Bool) (parts : List Part) (d : Descriptor) → q.head < q.ring.size → (t : Tracks q m p marks parts) → descriptor_at m p ≡ Ok d → fault_at q m t.before p ≡ fault_by p (first_kind q.negotiated parts (get_or marks d.next false) p d)
+fault-tracked : (q : TraceStart) (m : Memory) (p : Position) (marks : List Bool) (parts : List Part) (d : Descriptor) → q.head < q.ring.size → (t : Tracks q m p marks parts) → descriptor_at m p ≡ Ok d → fault_at q m t.before p ≡ fault_by p (first_kind q.negotiated parts (get_or marks d.next false) p d)
 fault-tracked q m p marks parts d h t e =
     let inside : nat_le q.ring.size q.head ≡ false = grind (arith, nat_tests) in
     let seen = is_among p.table.number d.next (p ∷ t.before) in
@@ -106,9 +106,9 @@ fault-tracked q m p marks parts d h t e =
     ∙ ap (fault_by p) (sym (seen_alike q.negotiated parts (get_or marks d.next false) seen p d (λ l. t.marks_are d.next l)))
 
 -- the parts after p
-parts-tracked : (q : Start) (m : Memory) (p : Position) (marks : List Bool) (parts : List Part) (d : Descriptor) → (t : Tracks q m p marks parts) → descriptor_at m p ≡ Ok d → parts_at m (p ∷ t.before) ≡ with_part parts d
+parts-tracked : (q : TraceStart) (m : Memory) (p : Position) (marks : List Bool) (parts : List Part) (d : Descriptor) → (t : Tracks q m p marks parts) → descriptor_at m p ≡ Ok d → parts_at m (p ∷ t.before) ≡ with_part parts d
 parts-tracked q m p marks parts d t e =
-    ap (with_read (parts_at m t.before)) e ∙ ap (λ (ps : List Part). with_part ps d) (sym t.parts_are)
+    ap (with_part_read (parts_at m t.before)) e ∙ ap (λ (ps : List Part). with_part ps d) (sym t.parts_are)
 
 next-tracked : (m : Memory) (p : Position) (d : Descriptor) (r : Option Position) → descriptor_at m p ≡ Ok d → position_after p d ≡ r → next_position m p ≡ r
 next-tracked m p d r e g = ap (after_read p) e ∙ g
@@ -117,17 +117,17 @@ same_ending : (f f' : Option Ending) (n n' : Option Position) (c c' : Chain) →
 same_ending f f' n n' c c' a b e = ap (λ (x : Option Ending). ending_by x n c) a ∙ ap (λ (x : Option Position). ending_by f' x c) b ∙ ap (ending_by f' n') e
 
 -- the trace ends so, before it has come to many positions
-pub record EndsSoon (q : Start) (m : Memory) (end : Ending) : Type 0 where
+pub record EndsSoon (q : TraceStart) (m : Memory) (end : Ending) : Type 0 where
   pub last : Position
   pub before : List Position
   pub trace : IsTrace q m (last ∷ before)
   pub ends : ending_at q m before last ≡ Some end
   pub soon : length before ≤ 65536 + q.ring.size
 
-pub soon-ends : (q : Start) (m : Memory) (end : Ending) → EndsSoon q m end → Ends q m end
+pub soon-ends : (q : TraceStart) (m : Memory) (end : Ending) → EndsSoon q m end → EndsAs q m end
 soon-ends q m end e = (e.last, e.before, e.trace, e.ends)
 
-tracked-ends : (q : Start) (m : Memory) (p : Position) (marks : List Bool) (parts : List Part) (end : Ending) → (t : Tracks q m p marks parts) → ending_at q m t.before p ≡ Some end → EndsSoon q m end
+tracked-ends : (q : TraceStart) (m : Memory) (p : Position) (marks : List Bool) (parts : List Part) (end : Ending) → (t : Tracks q m p marks parts) → ending_at q m t.before p ≡ Some end → EndsSoon q m end
 tracked-ends q m p marks parts end t e = record {
   last = p;
   before = t.before;
@@ -137,20 +137,20 @@ tracked-ends q m p marks parts end t e = record {
 }
 
 -- no descriptor
-pub ends-missing : (q : Start) (m : Memory) (p : Position) (marks : List Bool) (parts : List Part) (a : ℕ) → q.head < q.ring.size → Tracks q m p marks parts → descriptor_at m p ≡ Err a → EndsSoon q m (missing a)
+pub ends-missing : (q : TraceStart) (m : Memory) (p : Position) (marks : List Bool) (parts : List Part) (a : ℕ) → q.head < q.ring.size → Tracks q m p marks parts → descriptor_at m p ≡ Err a → EndsSoon q m (missing a)
 unfolding ending_at
 ends-missing q m p marks parts a h t e =
     let inside : nat_le q.ring.size q.head ≡ false = grind (arith, nat_tests) in
     tracked-ends q m p marks parts (missing a) t (rw (inside, e) refl)
 
 -- a fault
-pub ends-faulty : (q : Start) (m : Memory) (p : Position) (marks : List Bool) (parts : List Part) (d : Descriptor) (kind : ChainKind) → q.head < q.ring.size → Tracks q m p marks parts → descriptor_at m p ≡ Ok d → first_kind q.negotiated parts (get_or marks d.next false) p d ≡ Some kind → EndsSoon q m (fault_of p kind)
+pub ends-faulty : (q : TraceStart) (m : Memory) (p : Position) (marks : List Bool) (parts : List Part) (d : Descriptor) (kind : ChainKind) → q.head < q.ring.size → Tracks q m p marks parts → descriptor_at m p ≡ Ok d → first_kind q.negotiated parts (get_or marks d.next false) p d ≡ Some kind → EndsSoon q m (fault_of p kind)
 unfolding ending_at
 ends-faulty q m p marks parts d kind h t e f =
     tracked-ends q m p marks parts (fault_of p kind) t (rw (fault-tracked q m p marks parts d h t e, f) refl)
 
 -- the end of the chain
-pub ends-whole : (q : Start) (m : Memory) (p : Position) (marks : List Bool) (parts : List Part) (d : Descriptor) → q.head < q.ring.size → Tracks q m p marks parts → descriptor_at m p ≡ Ok d → first_kind q.negotiated parts (get_or marks d.next false) p d ≡ None → position_after p d ≡ None → EndsSoon q m (whole (chain_of q.head (with_part parts d)))
+pub ends-whole : (q : TraceStart) (m : Memory) (p : Position) (marks : List Bool) (parts : List Part) (d : Descriptor) → q.head < q.ring.size → Tracks q m p marks parts → descriptor_at m p ≡ Ok d → first_kind q.negotiated parts (get_or marks d.next false) p d ≡ None → position_after p d ≡ None → EndsSoon q m (whole (chain_of q.head (with_part parts d)))
 unfolding ending_at
 ends-whole q m p marks parts d h t e f g =
     tracked-ends q m p marks parts (whole (chain_of q.head (with_part parts d))) t
@@ -160,7 +160,7 @@ ends-whole q m p marks parts d h t e f g =
     (ap (chain_of q.head) (parts-tracked q m p marks parts d t e)))
 
 -- the position that follows
-follows-tracked : (q : Start) (m : Memory) (p r : Position) (marks : List Bool) (parts : List Part) (d : Descriptor) → q.head < q.ring.size → (t : Tracks q m p marks parts) → descriptor_at m p ≡ Ok d → first_kind q.negotiated parts (get_or marks d.next false) p d ≡ None → position_after p d ≡ Some r → Follows q m t.before p r
+follows-tracked : (q : TraceStart) (m : Memory) (p r : Position) (marks : List Bool) (parts : List Part) (d : Descriptor) → q.head < q.ring.size → (t : Tracks q m p marks parts) → descriptor_at m p ≡ Ok d → first_kind q.negotiated parts (get_or marks d.next false) p d ≡ None → position_after p d ≡ Some r → Follows q m t.before p r
 unfolding ending_at
 follows-tracked q m p r marks parts d h t e f g = record {
   goes_on = same_ending _ None _ (Some r) _ _
@@ -197,7 +197,7 @@ fewer p r marks new parts d low len ok g w =
     ]
 
 -- the next place of the same table
-tracks-same : (q : Start) (m : Memory) (p : Position) (marks : List Bool) (parts : List Part) (d : Descriptor) → length marks ≡ p.table.entries → (t : Tracks q m p marks parts) → descriptor_at m p ≡ Ok d → d.next < p.table.entries → unmarked (set marks d.next true) < unmarked marks → Follows q m t.before p (record { table = p.table; index = d.next }) → Tracks q m (record { table = p.table; index = d.next }) (set marks d.next true) (with_part parts d)
+tracks-same : (q : TraceStart) (m : Memory) (p : Position) (marks : List Bool) (parts : List Part) (d : Descriptor) → length marks ≡ p.table.entries → (t : Tracks q m p marks parts) → descriptor_at m p ≡ Ok d → d.next < p.table.entries → unmarked (set marks d.next true) < unmarked marks → Follows q m t.before p (record { table = p.table; index = d.next }) → Tracks q m (record { table = p.table; index = d.next }) (set marks d.next true) (with_part parts d)
 tracks-same q m p marks parts d len t e low less follows = record {
   before = p ∷ t.before;
   trace = (t.trace, follows);
@@ -208,7 +208,7 @@ tracks-same q m p marks parts d len t e low less follows = record {
 }
 
 -- the start of an indirect table
-tracks-new : (q : Start) (m : Memory) (p : Position) (marks : List Bool) (parts : List Part) (d : Descriptor) → p.table.number < 1 → (t : Tracks q m p marks parts) → descriptor_at m p ≡ Ok d → 0 < d.len / 16 → unmarked (set (replicate (d.len / 16) false) 0 true) < 65536 → Follows q m t.before p (record { table = record { number = 1; at = d.at; entries = d.len / 16 }; index = 0 }) → Tracks q m (record { table = record { number = 1; at = d.at; entries = d.len / 16 }; index = 0 }) (set (replicate (d.len / 16) false) 0 true) (with_part parts d)
+tracks-new : (q : TraceStart) (m : Memory) (p : Position) (marks : List Bool) (parts : List Part) (d : Descriptor) → p.table.number < 1 → (t : Tracks q m p marks parts) → descriptor_at m p ≡ Ok d → 0 < d.len / 16 → unmarked (set (replicate (d.len / 16) false) 0 true) < 65536 → Follows q m t.before p (record { table = record { number = 1; at = d.at; entries = d.len / 16 }; index = 0 }) → Tracks q m (record { table = record { number = 1; at = d.at; entries = d.len / 16 }; index = 0 }) (set (replicate (d.len / 16) false) 0 true) (with_part parts d)
 tracks-new q m p marks parts d low t e some less follows = record {
   before = p ∷ t.before;
   trace = (t.trace, follows);
@@ -218,7 +218,7 @@ tracks-new q m p marks parts d low t e some less follows = record {
   short = let so_far = t.short in omega arith;
 }
 
-pub tracks-next : (q : Start) (m : Memory) (p r : Position) (marks new : List Bool) (parts : List Part) (d : Descriptor) → q.head < q.ring.size → p.table.number ≤ 1 → length marks ≡ p.table.entries → Tracks q m p marks parts → descriptor_at m p ≡ Ok d → first_kind q.negotiated parts (get_or marks d.next false) p d ≡ None → position_after p d ≡ Some r → new ≡ set (cond (is_indirect d) (replicate r.table.entries false) marks) r.index true → Tracks q m r new (with_part parts d)
+pub tracks-next : (q : TraceStart) (m : Memory) (p r : Position) (marks new : List Bool) (parts : List Part) (d : Descriptor) → q.head < q.ring.size → p.table.number ≤ 1 → length marks ≡ p.table.entries → Tracks q m p marks parts → descriptor_at m p ≡ Ok d → first_kind q.negotiated parts (get_or marks d.next false) p d ≡ None → position_after p d ≡ Some r → new ≡ set (cond (is_indirect d) (replicate r.table.entries false) marks) r.index true → Tracks q m r new (with_part parts d)
 tracks-next q m p r marks new parts d h low len t e f g w =
     let x : Position = record { table = record { number = 1; at = d.at; entries = d.len / 16 }; index = 0 } in
     let y : Position = record { table = p.table; index = d.next } in
@@ -253,11 +253,22 @@ next_range p r seen parts d ok low g =
     ]
 
 -- the head is outside the table
-pub ends-headless : (q : Start) (m : Memory) → q.ring.size ≤ q.head → EndsSoon q m (fault_of (first_position q) Head)
+pub ends-headless : (q : TraceStart) (m : Memory) → q.ring.size ≤ q.head → EndsSoon q m (fault_of (first_position q) Head)
 unfolding ending_at
 ends-headless q m h =
     let inside : nat_le q.ring.size q.head ≡ true = grind (arith, nat_tests) in
     record { last = first_position q; before = []; trace = refl; ends = rw inside refl; soon = omega arith }
+
+-- With no indirect tables the next position is in the same one.
+pub table-direct : (p r : Position) (parts : List Part) (seen : Bool) (d : Descriptor) → first_kind false parts seen p d ≡ None → position_after p d ≡ Some r → r.table ≡ p.table
+table-direct p r parts seen d f g = elim (next_by (is_indirect d) (has_next d) (record { table = record { number = 1; at = d.at; entries = d.len / 16 }; index = 0 }) (record { table = p.table; index = d.next }) r g) [
+  | inl (indirect, same) ↦ absurd (never (is_indirect d) (p.table.number == 1) indirect f)
+  | inr (direct, next, same) ↦ sym (ap (λ (s : Position). s.table) same)
+] where
+  never : (i n : Bool) → i ≡ true → cond i (cond n (Some Nested) (Some Shape)) (cond (breaks_order parts d) (Some Order) (cond (is_long parts d) (Some Long) (cond (leaves_table p d) (Some Next) (cond (has_next d && seen) (Some Loop) None)))) ≡ None → ⊥
+  never true true e h = cc
+  never true false e h = cc
+  never false n e h = cc
 
 new_len : (p r : Position) (marks : List Bool) (seen : Bool) (parts : List Part) (d : Descriptor) → length marks ≡ p.table.entries → position_after p d ≡ Some r → length (set (cond (is_indirect d) (replicate r.table.entries false) marks) r.index true) ≡ r.table.entries
 new_len p r marks seen parts d len g =
@@ -268,7 +279,7 @@ new_len p r marks seen parts d len g =
     ]
 
 -- a trace that goes on
-record GoesOn (q : Start) (m : Memory) (most : ℕ) : Type 0 where
+record GoesOn (q : TraceStart) (m : Memory) (most : ℕ) : Type 0 where
   position : Position
   marks : List Bool
   parts : List Part
@@ -278,7 +289,7 @@ record GoesOn (q : Start) (m : Memory) (most : ℕ) : Type 0 where
   less : (1 - position.table.number) * 65536 + unmarked marks < most
 
 -- a trace ends at p, or goes on
-ends_or_goes_on : (q : Start) (m : Memory) → q.head < q.ring.size → (p : Position) (marks : List Bool) (parts : List Part) → p.table.number ≤ 1 → length marks ≡ p.table.entries → Tracks q m p marks parts
+ends_or_goes_on : (q : TraceStart) (m : Memory) → q.head < q.ring.size → (p : Position) (marks : List Bool) (parts : List Part) → p.table.number ≤ 1 → length marks ≡ p.table.entries → Tracks q m p marks parts
     → (read : Result Descriptor ℕ) → descriptor_at m p ≡ read → ((e : Ending) × EndsSoon q m e) ⊎ GoesOn q m ((1 - p.table.number) * 65536 + unmarked marks)
 ends_or_goes_on q m h p marks parts low len t (Err a) e = inl (missing a, ends-missing q m p marks parts a h t e)
 ends_or_goes_on q m h p marks parts low len t (Ok d) e = tests (first_kind q.negotiated parts (get_or marks d.next false) p d) refl
@@ -303,14 +314,14 @@ ends_or_goes_on q m h p marks parts low len t (Ok d) e = tests (first_kind q.neg
     tests None f = on f (position_after p d) refl
 
 -- Each trace ends: n bounds what it may still come to.
-ends_within : (q : Start) (m : Memory) → q.head < q.ring.size → (n : ℕ) → GoesOn q m n → (e : Ending) × EndsSoon q m e
+ends_within : (q : TraceStart) (m : Memory) → q.head < q.ring.size → (n : ℕ) → GoesOn q m n → (e : Ending) × EndsSoon q m e
 ends_within q m h zero on = absurd (let l = on.less in omega arith)
 ends_within q m h (suc n) on = elim (ends_or_goes_on q m h on.position on.marks on.parts on.low on.len on.tracks (descriptor_at m on.position) refl) [
   | inl end ↦ end
   | inr next ↦ ends_within q m h n (record { position = next.position; marks = next.marks; parts = next.parts; low = next.low; len = next.len; tracks = next.tracks; less = (let a = next.less in let b = on.less in omega arith) })
 ]
 
-pub some_end : (q : Start) (m : Memory) → (e : Ending) × EndsSoon q m e
+pub some_end : (q : TraceStart) (m : Memory) → (e : Ending) × EndsSoon q m e
 some_end q m = elim (cases_lt q.head q.ring.size) [
   | inl inside ↦
       (let marks = set (replicate q.ring.size false) q.head true in
@@ -327,17 +338,17 @@ some_end q m = elim (cases_lt q.head q.ring.size) [
 ]
 
 -- a position at which the trace doesn't end
-going_on : (q : Start) (m : Memory) (before : List Position) (r p : Position) (k : ℕ) → ending_at q m before r ≡ None → next_position m r ≡ Some p → ending_within (suc k) q m before r ≡ ending_within k q m (r ∷ before) p
+going_on : (q : TraceStart) (m : Memory) (before : List Position) (r p : Position) (k : ℕ) → ending_at q m before r ≡ None → next_position m r ≡ Some p → ending_within (suc k) q m before r ≡ ending_within k q m (r ∷ before) p
 unfolding ending_within
 going_on q m before r p k e n = rw (e, n, ending_within) refl
 
 -- a position at which it ends
-stopping : (q : Start) (m : Memory) (before : List Position) (p : Position) (end : Ending) (k : ℕ) → ending_at q m before p ≡ Some end → ending_within (suc k) q m before p ≡ Some end
+stopping : (q : TraceStart) (m : Memory) (before : List Position) (p : Position) (end : Ending) (k : ℕ) → ending_at q m before p ≡ Some end → ending_within (suc k) q m before p ≡ Some end
 unfolding ending_within
 stopping q m before p end k e = rw (e, ending_within) refl
 
 -- what is left of a trace after its positions so far
-ending_within-trace : (q : Start) (m : Memory) (p : Position) (before : List Position) → IsTrace q m (p ∷ before) → (k : ℕ) → ending_within (length before + k) q m [] (first_position q) ≡ ending_within k q m before p
+ending_within-trace : (q : TraceStart) (m : Memory) (p : Position) (before : List Position) → IsTrace q m (p ∷ before) → (k : ℕ) → ending_within (length before + k) q m [] (first_position q) ≡ ending_within k q m before p
 ending_within-trace q m p [] t k =
     let none : 0 + k ≡ k = omega arith in
     ap (λ (n : ℕ). ending_within n q m [] (first_position q)) none ∙ ap (λ (x : Position). ending_within k q m [] x) (sym t)
@@ -347,7 +358,7 @@ ending_within-trace q m p (r ∷ before) t k =
     ∙ ending_within-trace q m r before t.0 (suc k)
     ∙ going_on q m before r p k t.1.goes_on t.1.next
 
-ending_within-soon : (q : Start) (m : Memory) (end : Ending) → EndsSoon q m end → ending_within (65537 + q.ring.size) q m [] (first_position q) ≡ Some end
+ending_within-soon : (q : TraceStart) (m : Memory) (end : Ending) → EndsSoon q m end → ending_within (65537 + q.ring.size) q m [] (first_position q) ≡ Some end
 ending_within-soon q m end e =
     let k = 65536 + q.ring.size - length e.before in
     let soon = e.soon in
@@ -357,8 +368,8 @@ ending_within-soon q m end e =
     ∙ stopping q m e.before e.last end k e.ends
 
 -- the trace ends as it is computed
-pub ends-ending_of : (q : Start) (m : Memory) → Ends q m (ending_of q m)
+pub ends-ending_of : (q : TraceStart) (m : Memory) → EndsAs q m (ending_of q m)
 ends-ending_of q m =
     let e = some_end q m in
     let same : ending_of q m ≡ e.0 = ap (λ (o : Option Ending). unwrap_or o (missing 0)) (ending_within-soon q m e.0 e.1) in
-    subst (λ (end : Ending). Ends q m end) (sym same) (soon-ends q m e.0 e.1)
+    subst (λ (end : Ending). EndsAs q m end) (sym same) (soon-ends q m e.0 e.1)

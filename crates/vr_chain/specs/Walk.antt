@@ -1,5 +1,5 @@
 -- What a walk answers, by the trace of the chain.
-use Rattle.std.specs.Prelude.{◌≡◌, Result, Ok, Err}
+use Rattle.std.specs.Prelude.{ℕ, Bool, true, false, ◌≡◌, ◌≢◌, if◌then◌else◌, List, replicate, slice_set, Result, Ok, Err}
 use Rattle.vd_num.specs.declared.number.Bus.{Bus as Unmapped}
 use Rattle.vd_model.specs.Memory.{Memory}
 use Rattle.vd_model.specs.Trace.{descriptor_at, Ending, whole, faulty, missing}
@@ -25,3 +25,11 @@ Reads m p (Err bus) = descriptor_at m p ≡ Err bus.at
 -- the error that tells of a fault at a position
 abbrev pub error_of : Position → ChainKind → WalkError
 error_of p kind = Fault (record { kind = kind; table = p.table.number; index = p.index })
+
+-- no address is missing
+abbrev pub IsNoBus : Result Chain WalkError → Type 0
+IsNoBus r = (at : ℕ) → r ≢ Err (Bus at)
+
+-- the marks of a table once a position is visited, where the table may be new
+abbrev pub marked : Bool → List Bool → Position → List Bool
+marked is_new marks p = slice_set (if is_new then replicate p.table.entries false else marks) p.index true

@@ -1,6 +1,6 @@
 //! What a descriptor says, and where it stands.
 ghost use Rattle.std.specs.Prelude.{◌≡◌, ◌≤◌, true};
-ghost use Rattle.vd_model.specs.Trace.{descriptor_of, address_of, position_after, has_next, is_writable, is_indirect, is_misshapen, part_of};
+ghost use Rattle.vd_model.specs.Trace.{descriptor_of, descriptor_address, position_after, has_next, is_writable, is_indirect, is_misshapen, descriptor_part};
 
 use bitflags::Flags;
 use vd_model::{Descriptor, Part, Position, Table};
@@ -46,7 +46,7 @@ pub fn is_misshapen(negotiated: bool, d: &Descriptor) -> bool
 }
 
 pub fn part_of(d: &Descriptor) -> Part
-    ensures { result ≡ part_of d.now }
+    ensures { result ≡ descriptor_part d.now }
 {
     Part {
         at: d.at,
@@ -57,7 +57,7 @@ pub fn part_of(d: &Descriptor) -> Part
 
 /// The address of the descriptor at a position.
 pub fn address_of(position: &Position) -> u64
-    ensures { result ≡ address_of position.now }
+    ensures { result ≡ descriptor_address position.now }
 {
     position.table.at.wrapping_add(16 * position.index as u64)
 }

@@ -1,5 +1,4 @@
 //! The walk of a chain of descriptors.
-//! It stands on `vr_split`, and the device's side of a ring stands on it.
 //! `walk` answers exactly how the trace of the chain ends: with the chain, with the first rule that it breaks, or at
 //! the first address that isn't there. `one_trace` says that there is one such end for each memory, ring and head.
 //! No memory is taken for a descriptor beyond its place in the chain.

@@ -1,10 +1,11 @@
 //! The walk of a chain.
-ghost use Rattle.std.specs.Prelude.{◌≡◌, ◌<◌, ◌≤◌, true, false, if◌then◌else◌, length, vec_len, replicate, slice_set, slice_index_or, IsOk, OnOk};
+ghost use Rattle.std.specs.Prelude.{◌≡◌, ◌<◌, ◌≤◌, true, false, length, vec_len, slice_index_or, IsOk, OnOk};
 ghost use Rattle.std.specs.Option.{ForSome};
 ghost use Rattle.vd_model.specs.Memory.{Memory};
-ghost use Rattle.vd_model.specs.Trace.{address_of, first_kind, is_indirect, Ending, Ends, Start, start_of, ending_of};
-ghost use Rattle.vr_split.specs.Mem.{InSpan};
-ghost use Rattle.vr_chain.specs.Walk.{Reads, UnlessMemory, error_of};
+ghost use Rattle.vd_model.specs.Trace.{descriptor_address, first_kind, is_indirect, Ending, EndsAs, TraceStart, trace_start, ending_of};
+ghost use Rattle.vr_split.specs.Mem.{IsUnchanged};
+ghost use Rattle.vr_split.specs.Reach.{Reaches, TableInReach};
+ghost use Rattle.vr_chain.specs.Walk.{Reads, UnlessMemory, IsNoBus, error_of, marked};
 
 use crate::descriptor::{
     address_of, from_bytes, has_next, is_indirect, is_misshapen, is_writable, position_after,
@@ -22,10 +23,8 @@ const MAX_CHAIN_BYTES: u64 = 16777216;
 /// Loads the descriptor at a position.
 fn load<M: Mem>(mem: &mut M, position: &Position) -> Result<Descriptor, Bus>
     ensures loads { ForSome (M.told mem.old) (λ m. Reads m position.now result) }
-    ensures told { M.told mem.new ≡ M.told mem.old }
-    ensures spanned { InSpan (M.span mem.old) (address_of position.now) 16 → IsOk result }
-    ensures span { M.span mem.new ≡ M.span mem.old }
-    ensures keeps { M.keeps mem.old mem.new }
+    ensures in_reach { Reaches (M.told mem.old) (M.span mem.old) (descriptor_address position.now) 16 → IsOk result }
+    ensures memory { IsUnchanged M.told M.span M.keeps mem.old mem.new }
 {
     let mut bytes = [0; 16];
     mem.load(address_of(position), &mut bytes)?;
@@ -41,7 +40,8 @@ fn check(
     d: &Descriptor,
 ) -> Option<ChainKind>
     requires { length marks.now ≡ position.now.table.entries }
-    ensures { result ≡ first_kind negotiated gathered.now (slice_index_or marks.now d.now.next false) position.now d.now }
+    ensures { let seen = slice_index_or marks.now d.now.next false in
+        result ≡ first_kind negotiated gathered.now seen position.now d.now }
 {
     if is_indirect(d) {
         if position.table.number == 1 {
@@ -90,7 +90,7 @@ fn arrive(
 ) -> Result<(), AllocError>
     requires inside { position.now.index < position.now.table.entries }
     requires same { is_new ≡ false → vec_len marks.old ≡ position.now.table.entries }
-    ensures ok { OnOk result (marks.new.items ≡ slice_set (if is_new then replicate position.now.table.entries false else marks.old.items) position.now.index true) }
+    ensures ok { OnOk result (marks.new.items ≡ marked is_new marks.old.items position.now) }
     ensures len { OnOk result (vec_len marks.new ≡ position.now.table.entries) }
 {
     if is_new {
@@ -109,10 +109,9 @@ fn follow<M: Mem>(
     negotiated: bool,
 ) -> Result<Chain, WalkError>
     requires { ring.now.size ≤ 32768 }
-    ensures found { ForSome (M.told mem.old) (λ m. UnlessMemory result (Ends (start_of ring.now head negotiated) m)) }
-    ensures told { M.told mem.new ≡ M.told mem.old }
-    ensures span { M.span mem.new ≡ M.span mem.old }
-    ensures keeps { M.keeps mem.old mem.new }
+    ensures found { ForSome (M.told mem.old) (λ m. UnlessMemory result (EndsAs (trace_start ring.now head negotiated) m)) }
+    ensures no_bus { negotiated ≡ false → TableInReach (M.told mem.old) (M.span mem.old) ring.now → IsNoBus result }
+    ensures memory { IsUnchanged M.told M.span M.keeps mem.old mem.new }
 {
     let mut position = Position {
         table: Table {
@@ -158,20 +157,21 @@ pub fn walk<M: Mem>(
     requires { ring.now.size ≤ 32768 }
 
     // The trace ends as the answer tells, and where it ends so, this is the answer.
-    ensures found { ForSome (M.told mem.old) (λ m. UnlessMemory result (Ends (start_of ring.now head indirect) m)) }
+    ensures found { ForSome (M.told mem.old) (λ m. UnlessMemory result (EndsAs (trace_start ring.now head indirect) m)) }
     ensures only { ForSome (M.told mem.old) (λ m. (end : Ending) →
-        Ends (start_of ring.now head indirect) m end → UnlessMemory result (λ e. e ≡ end)) }
-    ensures computed { ForSome (M.told mem.old) (λ m. UnlessMemory result (λ e. e ≡ ending_of (start_of ring.now head indirect) m)) }
+        EndsAs (trace_start ring.now head indirect) m end → UnlessMemory result (λ e. e ≡ end)) }
+    ensures computed { ForSome (M.told mem.old) (λ m. UnlessMemory result (λ e. e ≡ ending_of (trace_start ring.now head indirect) m)) }
 
-    ensures told { M.told mem.new ≡ M.told mem.old }
-    ensures span { M.span mem.new ≡ M.span mem.old }
-    ensures keeps { M.keeps mem.old mem.new }
+    // With no indirect tables it reads the ring's descriptors alone.
+    ensures no_bus { indirect ≡ false → TableInReach (M.told mem.old) (M.span mem.old) ring.now → IsNoBus result }
+
+    ensures memory { IsUnchanged M.told M.span M.keeps mem.old mem.new }
 {
     follow(alloc, mem, ring, head, indirect)
 }
 
 /// Each memory, ring, head and setting have one trace, and it ends in one way. It does nothing.
 pub fn one_trace()
-    ensures ends { (s : Start) (m : Memory) → Ends s m (ending_of s m) }
-    ensures once { (s : Start) (m : Memory) (a b : Ending) → Ends s m a → Ends s m b → a ≡ b }
+    ensures ends { (s : TraceStart) (m : Memory) → EndsAs s m (ending_of s m) }
+    ensures once { (s : TraceStart) (m : Memory) (a b : Ending) → EndsAs s m a → EndsAs s m b → a ≡ b }
 {}

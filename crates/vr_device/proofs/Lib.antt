@@ -1,2 +1,3 @@
 pub mod NextLemmas
 pub mod UsedLemmas
+pub mod Reached

@@ -1,10 +1,10 @@
 -- The device's side of a ring (virtio 1.2, 2.7): what its calls answer by the memory, and what they write.
-use Rattle.std.specs.Prelude.{ℕ, Bool, true, false, ◌≡◌, ◌==◌, nat_lt, bit_and, if◌then◌else◌, List, ◌++◌, Option, Some, None, Result, Ok, Err, IsOk}
+use Rattle.std.specs.Prelude.{ℕ, Bool, not, true, false, ◌≡◌, ◌==◌, nat_lt, bit_and, if◌then◌else◌, List, ◌++◌, Option, Some, None, Result, Ok, Err, IsOk}
 use Rattle.byteorder.specs.Endian.{little_bytes}
 use Rattle.vd_num.specs.declared.number.Bus.{Bus as Unmapped}
 use Rattle.vd_model.specs.Memory.{Memory, read, written}
 use Rattle.vd_model.specs.Rings.{minus16, next16, needs_event, number16, available_flags_at, available_index_at, available_slot_at, used_event_at, used_index_at, used_element_at}
-use Rattle.vd_model.specs.Trace.{Ending, whole, faulty, missing, start_of, ending_of}
+use Rattle.vd_model.specs.Trace.{Ending, whole, faulty, missing, trace_start, ending_of}
 use Rattle.vd_model.specs.declared.queue.RingPlace.{RingPlace}
 use Rattle.vd_model.specs.declared.parts.Chain.{Chain}
 use Rattle.vr_chain.specs.declared.error.WalkError.TheVariants.{Fault, Bus, Memory as OutOfMemory}
@@ -32,7 +32,7 @@ popped (missing address) = Err (Walk (Bus address))
 
 -- the answer for a head that stands in a slot, or for a slot that isn't there
 abbrev pub pop_of : Memory → RingPlace → Bool → Result ℕ ℕ → Result (Option Chain) PopError
-pop_of m place indirect (Ok head) = popped (ending_of (start_of place head indirect) m)
+pop_of m place indirect (Ok head) = popped (ending_of (trace_start place head indirect) m)
 pop_of m place indirect (Err address) = Err (Walk (Bus address))
 
 -- Nothing is next where the available index is the position, and it is ahead where it is more than the size further on.
@@ -94,8 +94,9 @@ abbrev pub by_event : Side → Result ℕ ℕ → Result Bool Unmapped
 by_event side (Ok event) = Ok (needs_event event side.used (minus16 side.used 1))
 by_event side (Err address) = Err (record { at = address })
 
+-- unless flag 1 is set
 abbrev pub by_flags : Result ℕ ℕ → Result Bool Unmapped
-by_flags (Ok flags) = Ok (bit_and flags 1 == 0)
+by_flags (Ok flags) = Ok (not (bit_and flags 1 == 1))
 by_flags (Err address) = Err (record { at = address })
 
 -- an interrupt is wanted for the last chain given back: by the used event that the driver asked for, or by its flags

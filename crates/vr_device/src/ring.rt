@@ -1,12 +1,16 @@
 //! Taking chains from a ring, and giving them back.
-ghost use Rattle.std.specs.Prelude.{◌≡◌, ◌<◌, ◌≤◌, Some, IfOk, IsOk, OnOk, OnErr, true, false};
+ghost use Rattle.std.specs.Prelude.{◌≡◌, ◌≢◌, ◌<◌, ◌≤◌, ℕ, Some, Err, IfOk, IsOk, OnOk, OnErr, true, false};
 ghost use Rattle.std.specs.Option.{ForSome};
 ghost use Rattle.byteorder.specs.Endian.{little_bytes};
 ghost use Rattle.vd_model.specs.Rings.{available_event_at, next16};
-ghost use Rattle.vr_split.specs.Mem.{Stores};
+ghost use Rattle.vr_split.specs.Mem.{Stores, IsUnchanged};
+ghost use Rattle.vr_split.specs.Reach.{RingInReach, KeepsReach};
+ghost use Rattle.vr_chain.specs.declared.error.WalkError.TheVariants.{Bus as NotThere};
+ghost use Rattle.vr_device.specs.declared.error.PopError.TheVariants.{Walk};
 ghost use Rattle.vr_device.specs.Device.{resumed, next_of, IsUnlessMemory, Checks, Pushes, interrupt, element_bytes, with_element};
 
 use crate::error::PopError;
+use bitflags::Flags;
 use std::alloc::Global;
 use std::marker::Model;
 use vd_model::{Chain, RingPlace};
@@ -16,10 +20,7 @@ use vr_split::fields::{
     available_event, available_flags, available_index, available_slot, used_element, used_event,
     used_index,
 };
-use vr_split::{Mem, need_event};
-
-/// The flag of the available ring by which the driver wants no interrupts (virtio 1.2, section 2.7.6).
-const NO_INTERRUPT: u16 = 1;
+use vr_split::{AvailableFlags, Mem, need_event};
 
 /// The device's side of a ring: which available index it takes next, and which used index it gives next.
 #[derive(Debug, Drop)]
@@ -58,10 +59,9 @@ impl DeviceRing {
 
         ensures resumed { ForSome (M.told mem.old) (λ m. result ≡ resumed m place) }
         ensures place { IfOk result (λ ring. ring.place ≡ place) }
+        ensures in_reach { RingInReach (M.told mem.old) (M.span mem.old) place → IsOk result }
 
-        ensures told { M.told mem.new ≡ M.told mem.old }
-        ensures span { M.span mem.new ≡ M.span mem.old }
-        ensures keeps { M.keeps mem.old mem.new }
+        ensures memory { IsUnchanged M.told M.span M.keeps mem.old mem.new }
     {
         let used = mem.load16(used_index(&place))?;
         Ok(DeviceRing {
@@ -80,9 +80,11 @@ impl DeviceRing {
     ) -> Result<Option<Chain>, PopError>
         ensures next { ForSome (M.told mem.old) (λ m. IsUnlessMemory result (next_of m self.now indirect)) }
 
-        ensures told { M.told mem.new ≡ M.told mem.old }
-        ensures span { M.span mem.new ≡ M.span mem.old }
-        ensures keeps { M.keeps mem.old mem.new }
+        // With no indirect tables it reads the ring alone.
+        ensures in_reach { RingInReach (M.told mem.old) (M.span mem.old) self.now.place → indirect ≡ false
+            → (at : ℕ) → result ≢ Err (Walk (NotThere at)) }
+
+        ensures memory { IsUnchanged M.told M.span M.keeps mem.old mem.new }
     {
         let position = self.position;
         let found = mem.load16(available_index(&self.place))?;
@@ -108,11 +110,11 @@ impl DeviceRing {
 
         ensures event { event_idx ≡ true → ForSome (M.told mem.old) (λ m.
             Stores m (available_event_at self.old.place) (little_bytes 2 (next16 self.old.position)) result (M.told mem.new)) }
+        ensures in_reach { RingInReach (M.told mem.old) (M.span mem.old) self.old.place → IsOk result }
         ensures no_event { event_idx ≡ false → IsOk result }
         ensures no_event_told { event_idx ≡ false → M.told mem.new ≡ M.told mem.old }
 
-        ensures span { M.span mem.new ≡ M.span mem.old }
-        ensures keeps { M.keeps mem.old mem.new }
+        ensures memory { KeepsReach M.told M.span M.keeps mem.old mem.new }
     {
         let next = self.position.wrapping_add(1);
         if event_idx {
@@ -125,10 +127,9 @@ impl DeviceRing {
     /// Whether the next used element and the used index can be written. It changes nothing.
     pub fn check_used<M: Mem>(&self, mem: &mut M) -> Result<(), Bus>
         ensures checked { ForSome (M.told mem.old) (λ m. Checks m self.now result) }
+        ensures in_reach { RingInReach (M.told mem.old) (M.span mem.old) self.now.place → IsOk result }
 
-        ensures told { M.told mem.new ≡ M.told mem.old }
-        ensures span { M.span mem.new ≡ M.span mem.old }
-        ensures keeps { M.keeps mem.old mem.new }
+        ensures memory { IsUnchanged M.told M.span M.keeps mem.old mem.new }
     {
         let mut element = [0; 8];
         mem.load(used_element(&self.place, self.used), &mut element)?;
@@ -143,14 +144,14 @@ impl DeviceRing {
         ensures stays { OnErr result (self.new ≡ self.old) }
 
         ensures pushed { ForSome (M.told mem.old) (λ m. Pushes m self.old head len result (M.told mem.new)) }
+        ensures in_reach { RingInReach (M.told mem.old) (M.span mem.old) self.old.place → IsOk result }
 
         // The element stands before the index tells of it: in a state between, it is all that was written.
         ensures element_first { OnOk result (ForSome (M.told mem.old) (λ m. (between : M)
             × (M.told between ≡ Some (with_element m self.old head len))
             × M.keeps mem.old between × M.keeps between mem.new)) }
 
-        ensures span { M.span mem.new ≡ M.span mem.old }
-        ensures keeps { M.keeps mem.old mem.new }
+        ensures memory { KeepsReach M.told M.span M.keeps mem.old mem.new }
     {
         self.check_used(mem)?;
         let next = self.used.wrapping_add(1);
@@ -163,16 +164,15 @@ impl DeviceRing {
     /// Whether the driver wants an interrupt for the last chain that was given back (virtio 1.2, section 2.7.7).
     pub fn should_interrupt<M: Mem>(&self, mem: &mut M, event_idx: bool) -> Result<bool, Bus>
         ensures wanted { ForSome (M.told mem.old) (λ m. result ≡ interrupt m self.now event_idx) }
+        ensures in_reach { RingInReach (M.told mem.old) (M.span mem.old) self.now.place → IsOk result }
 
-        ensures told { M.told mem.new ≡ M.told mem.old }
-        ensures span { M.span mem.new ≡ M.span mem.old }
-        ensures keeps { M.keeps mem.old mem.new }
+        ensures memory { IsUnchanged M.told M.span M.keeps mem.old mem.new }
     {
         if event_idx {
             let event = mem.load16(used_event(&self.place))?;
             return Ok(need_event(event, self.used, self.used.wrapping_sub(1)));
         }
         let flags = mem.load16(available_flags(&self.place))?;
-        Ok(flags & NO_INTERRUPT == 0)
+        Ok(!AvailableFlags::from_bits_retain(flags).contains(AvailableFlags::NO_INTERRUPT))
     }
 }

@@ -5,7 +5,7 @@ use Rattle.std.proofs.Math.Seq.{drop-cons, take-suc-set}
 use Rattle.std.specs.Prelude.{is_some}
 use Rattle.std.proofs.lemmas.List.{get_or-take, length-take-le}
 use Rattle.std.proofs.lemmas.Grind.{common_steps}
-use Rattle.vr_driver.specs.Side.{free_from, claimed}
+use Rattle.vr_driver.specs.Side.{free_from, with_owner}
 
 -- the rest from k on
 drop-at : {X : Type 0} (xs : List X) (k : ℕ) (d x : X) → k < length xs → get_or xs k d ≡ x → drop k xs ≡ x ∷ drop (k + 1) xs
@@ -58,11 +58,11 @@ picked-all into all n l h e =
     grind (arith, common_steps)
 
 -- one more is claimed
-pub claimed-more : (owners : List (Option ℕ)) (indices : List ℕ) (head k : ℕ) → k < length indices → claimed owners (drop k indices) head ≡ claimed (set owners (get_or indices k 0) (Some head)) (drop (k + 1) indices) head
-claimed-more owners indices head k h = ap (λ (l : List ℕ). claimed owners l head) (drop-at indices k 0 (get_or indices k 0) h refl)
+pub with_owner-more : (owners : List (Option ℕ)) (indices : List ℕ) (head k : ℕ) → k < length indices → with_owner owners (drop k indices) head ≡ with_owner (set owners (get_or indices k 0) (Some head)) (drop (k + 1) indices) head
+with_owner-more owners indices head k h = ap (λ (l : List ℕ). with_owner owners l head) (drop-at indices k 0 (get_or indices k 0) h refl)
 
-pub claimed-end : (owners : List (Option ℕ)) (indices : List ℕ) (head k : ℕ) → length indices ≤ k → claimed owners (drop k indices) head ≡ owners
-claimed-end owners indices head k h = let none : drop k indices ≡ [] = grind (arith, common_steps) in ap (λ (l : List ℕ). claimed owners l head) none
+pub with_owner-end : (owners : List (Option ℕ)) (indices : List ℕ) (head k : ℕ) → length indices ≤ k → with_owner owners (drop k indices) head ≡ owners
+with_owner-end owners indices head k h = let none : drop k indices ≡ [] = grind (arith, common_steps) in ap (λ (l : List ℕ). with_owner owners l head) none
 
 -- nothing more is wanted
 pub picked-full : (len n : ℕ) (xs ys : List ℕ) → len ≤ n → take (len - n) xs ≡ take (len - n) ys

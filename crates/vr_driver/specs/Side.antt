@@ -11,18 +11,22 @@ free_from k [] = []
 free_from k (None ∷ owners) = k ∷ free_from (k + 1) owners
 free_from k (Some head ∷ owners) = free_from (k + 1) owners
 
+-- the first n of them
+abbrev pub least_free : List (Option ℕ) → ℕ → List ℕ
+least_free owners n = take n (free_from 0 owners)
+
 -- after the chain of a head took these
-abbrev pub claimed : List (Option ℕ) → List ℕ → ℕ → List (Option ℕ)
-claimed owners [] head = owners
-claimed owners (i ∷ indices) head = claimed (slice_set owners i (Some head)) indices head
+abbrev pub with_owner : List (Option ℕ) → List ℕ → ℕ → List (Option ℕ)
+with_owner owners [] head = owners
+with_owner owners (i ∷ indices) head = with_owner (slice_set owners i (Some head)) indices head
 
 -- the owner of a descriptor after the chain of a head gave its own back
-abbrev pub left_by : ℕ → Option ℕ → Option ℕ
-left_by head None = None
-left_by head (Some owner) = if owner == head then None else Some owner
+abbrev pub other_owner : ℕ → Option ℕ → Option ℕ
+other_owner head None = None
+other_owner head (Some owner) = if owner == head then None else Some owner
 
-abbrev pub released : List (Option ℕ) → ℕ → List (Option ℕ)
-released owners head = map (left_by head) owners
+abbrev pub without_owner : List (Option ℕ) → ℕ → List (Option ℕ)
+without_owner owners head = map (other_owner head) owners
 
 -- THE SIDE
 
@@ -38,27 +42,30 @@ pub record DriverSide : Type 0 where
   pub reclaimed : ℕ
 
 -- a ring to which nothing was added
-abbrev pub fresh : RingPlace → DriverSide
-fresh place = record { place = place; owners = replicate place.size None; announced = replicate place.size false; added = 0; published = 0; reclaimed = 0 }
+abbrev pub side_of : RingPlace → DriverSide
+side_of place = record { place = place; owners = replicate place.size None; announced = replicate place.size false; added = 0; published = 0; reclaimed = 0 }
 
 -- the free descriptors, ascending
-abbrev pub free : DriverSide → List ℕ
-free s = free_from 0 s.owners
+abbrev pub free_descriptors : DriverSide → List ℕ
+free_descriptors s = free_from 0 s.owners
 
 -- the least free descriptors, which the next chain of n takes, and the first of them
 abbrev pub next_chain : DriverSide → ℕ → List ℕ
-next_chain s n = take n (free s)
+next_chain s n = least_free s.owners n
 
 abbrev pub next_head : DriverSide → ℕ → ℕ
 next_head s n = slice_index (next_chain s n) 0
 
--- with a chain of n descriptors more, which isn't published yet
-abbrev pub with_chain : DriverSide → ℕ → DriverSide
-with_chain s n = record s {
-  owners = claimed s.owners (next_chain s n) (next_head s n);
+-- with n descriptors taken by a chain that isn't published yet
+abbrev pub with_descriptors_taken : DriverSide → ℕ → DriverSide
+with_descriptors_taken s n = record s {
+  owners = with_owner s.owners (next_chain s n) (next_head s n);
   announced = slice_set s.announced (next_head s n) false;
-  added = next16 s.added;
 }
+
+-- and that chain added
+abbrev pub with_chain : DriverSide → ℕ → DriverSide
+with_chain s n = record (with_descriptors_taken s n) { added = next16 s.added }
 
 -- with all chains published
 abbrev pub all_published : DriverSide → DriverSide
@@ -79,4 +86,4 @@ is_waiting s id = is_owner id (slice_index_or s.owners id None) && slice_index_o
 
 -- with the chain of this head reclaimed
 abbrev pub without_chain : DriverSide → ℕ → DriverSide
-without_chain s head = record s { owners = released s.owners head; reclaimed = next16 s.reclaimed }
+without_chain s head = record s { owners = without_owner s.owners head; reclaimed = next16 s.reclaimed }

@@ -1,4 +1,4 @@
-// What is taken back from a ring.
+//! What is taken back from a ring.
 
 /// A chain that was used: its head, and how many bytes the device says that it wrote (virtio 1.2, section 2.7.8).
 #[derive(Clone, Copy, Debug, PartialEq, Eq)]

@@ -1,7 +1,7 @@
-// The descriptors of a ring, each with the head of the chain that holds it.
+//! The descriptors of a ring, each with the head of the chain that holds it.
 ghost use Rattle.std.specs.Prelude.{◌≡◌, ◌<◌, ◌≤◌, length, take, slice_index, slice_set, false};
 ghost use Rattle.std.specs.List.{All};
-ghost use Rattle.vr_driver.specs.Side.{free_from, claimed, left_by, released};
+ghost use Rattle.vr_driver.specs.Side.{free_from, least_free, with_owner, other_owner, without_owner};
 
 /// How many descriptors are free.
 pub fn count_free(owners: &[Option<u16>]) -> usize
@@ -20,7 +20,7 @@ pub fn count_free(owners: &[Option<u16>]) -> usize
 fn pick(owners: &[Option<u16>], into: &mut [u16])
     requires enough { length into.old ≤ length (free_from 0 owners.now) }
     requires small { length owners.now < 65536 }
-    ensures { into.new ≡ take (length into.old) (free_from 0 owners.now) }
+    ensures { into.new ≡ least_free owners.now (length into.old) }
 {
     let mut n = 0;
     for (k, owner) in owners.iter().enumerate() {
@@ -34,25 +34,33 @@ fn pick(owners: &[Option<u16>], into: &mut [u16])
 /// Gives descriptors to the chain of a head.
 fn claim(owners: &mut [Option<u16>], indices: &[u16], head: u16)
     requires { All (λ i. i < length owners.old) indices.now }
-    ensures { owners.new ≡ claimed owners.old indices.now head }
+    ensures { owners.new ≡ with_owner owners.old indices.now head }
 {
     for i in indices {
         owners[*i as usize] = Some(head);
     }
 }
 
-/// Gives the least free descriptors to a chain that isn't published, and answers its head, the least of them.
-pub fn reserve(owners: &mut [Option<u16>], announced: &mut [bool], into: &mut [u16]) -> u16
-    requires some { 0 < length into.old }
-    requires enough { length into.old ≤ length (free_from 0 owners.old) }
+/// Gives the `n` least free descriptors to a chain that isn't published, puts them at the front of `into`, and answers
+/// the chain's head, the least of them.
+pub fn reserve(
+    owners: &mut [Option<u16>],
+    announced: &mut [bool],
+    into: &mut [u16],
+    n: usize,
+) -> u16
+    requires some { 0 < n }
+    requires room { n ≤ length into.old }
+    requires enough { n ≤ length (free_from 0 owners.old) }
     requires small { length owners.old < 65536 }
     requires same_len { length announced.old ≡ length owners.old }
-    ensures into { into.new ≡ take (length into.old) (free_from 0 owners.old) }
-    ensures head { result ≡ slice_index (take (length into.old) (free_from 0 owners.old)) 0 }
-    ensures owners { owners.new ≡ claimed owners.old (take (length into.old) (free_from 0 owners.old)) result }
+    ensures into { take n into.new ≡ least_free owners.old n }
+    ensures head { result ≡ slice_index (least_free owners.old n) 0 }
+    ensures owners { owners.new ≡ with_owner owners.old (least_free owners.old n) result }
     ensures announced { announced.new ≡ slice_set announced.old result false }
-    ensures below { All (λ i. i < length owners.old) into.new }
+    ensures below { All (λ i. i < length owners.old) (take n into.new) }
 {
+    let into = &mut into[..n];
     pick(owners, into);
     let head = into[0];
     claim(owners, into, head);
@@ -62,7 +70,7 @@ pub fn reserve(owners: &mut [Option<u16>], announced: &mut [bool], into: &mut [u
 
 /// The owner of a descriptor when the chain of a head gives its own back.
 fn after_release(owner: Option<u16>, head: u16) -> Option<u16>
-    ensures { result ≡ left_by head owner }
+    ensures { result ≡ other_owner head owner }
 {
     match owner {
         Some(owner) => { if owner == head { None } else { Some(owner) } }
@@ -72,7 +80,7 @@ fn after_release(owner: Option<u16>, head: u16) -> Option<u16>
 
 /// Takes its descriptors back from the chain of a head.
 pub fn release(owners: &mut [Option<u16>], head: u16)
-    ensures { owners.new ≡ released owners.old head }
+    ensures { owners.new ≡ without_owner owners.old head }
 {
     for i in 0..owners.len() {
         owners[i] = after_release(owners[i], head);

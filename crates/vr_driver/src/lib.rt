@@ -1,8 +1,7 @@
 //! The driver's side of a split ring: it adds chains, publishes them, and takes back those that were used.
-//! The block driver stands on it.
-//! Its contract says for each call the exact answer, what becomes of the descriptors, and the exact memory that it
-//! leaves, where memory tells its bytes. `new` takes all memory, and the other calls none. Whatever stands in the used
-//! ring, only a published chain is taken back, and only once.
+//! Each call says its exact answer, what becomes of the descriptors, and the exact memory that it leaves, where memory
+//! tells its bytes. `new` takes all memory, and the other calls none. Whatever stands in the used ring, only a published
+//! chain is taken back, and only once.
 #![tactic(auto)]
 
 mod completion;

@@ -1,7 +1,7 @@
 //! A ring over memory that tells its bytes, and a device that writes into its used ring.
 ghost use Rattle.std.specs.Prelude.{◌≡◌, ◌+◌, ◌*◌, ◌<◌, ◌≤◌, ◌^◌, length, Some, None, IfOk};
 ghost use Rattle.vd_model.specs.Memory.{bytes_from};
-ghost use Rattle.vr_driver.specs.Driver.{RingInReach};
+ghost use Rattle.vr_split.specs.Reach.{RingInReach};
 
 use crate::{AddError, Completion, DriverRing, Part, Published, RingPlace, UsedError};
 use std::alloc::{AllocError, Global};

@@ -1,4 +1,4 @@
-// The addresses of a ring's fields, modulo 2^64 (virtio 1.2, 2.7.6 and 2.7.8).
+//! The addresses of a ring's fields, modulo 2^64 (virtio 1.2, 2.7.6 and 2.7.8).
 ghost use Rattle.std.specs.Prelude.{◌≡◌, ◌+◌, ◌*◌, ◌<◌, ◌≤◌};
 ghost use Rattle.vd_model.specs.Rings.{ring_address, available_flags_at, available_index_at, available_slot_at, used_event_at, used_flags_at, used_index_at, used_element_at, available_event_at};
 

@@ -1,11 +1,11 @@
 //! What both sides of a split ring share: the memory that it lies in, and where its fields stand.
-//! The walk of chains and the two sides of a ring stand on it.
-//! `Mem` may tell what stands in it, and then each call says exactly what it loads, what it leaves, and the first
-//! address that isn't there; it may tell a span in which no call fails; and it says what its calls leave alone.
+//! A `Mem` may tell what stands in it, and then each call says exactly what it loads, what it leaves, and the first
+//! address that isn't there; it may tell a span in which no call fails; and it says what its calls keep.
 //! `layout_of`, `need_event` and the addresses of a ring's fields are exact.
 #![tactic(auto)]
 
 pub mod fields;
+mod flags;
 pub mod mem;
 pub mod reach;
 pub mod ring;
@@ -13,6 +13,7 @@ pub mod ring;
 mod tests;
 pub mod vec_mem;
 
+pub use flags::{AvailableFlags, UsedFlags};
 pub use mem::Mem;
 pub use ring::{Layout, layout_of, need_event};
 pub use vd_model::RingPlace;

@@ -1,10 +1,10 @@
-// The memory that a ring lies in.
+//! The memory that a ring lies in.
 ghost use Rattle.std.specs.Prelude.{◌≡◌, ◌<◌, ◌^◌, Option, Some, length, IsOk};
 ghost use Rattle.std.specs.Option.{ForSome};
 ghost use Rattle.byteorder.specs.Endian.{little_bytes};
 ghost use Rattle.vd_num.specs.declared.number.Range.{Range};
 ghost use Rattle.vd_model.specs.Memory.{Memory, IsFinite};
-ghost use Rattle.vr_split.specs.Mem.{Loads, LoadsNumber, Stores, InSpan};
+ghost use Rattle.vr_split.specs.Mem.{Loads, LoadsNumber, Stores, InSpan, IsUnchanged};
 
 use vd_num::{Bus, get16, set16};
 
@@ -23,10 +23,8 @@ pub trait Mem {
     /// Loads the bytes from an address on, or answers the first address at which none stands.
     fn load(&mut self, at: u64, out: &mut [u8]) -> Result<(), Bus>
         ensures loads { ForSome (told self.old) (λ m. Loads m at (length out.old) result out.new) }
-        ensures told { told self.new ≡ told self.old }
         ensures spanned { InSpan (span self.old) at (length out.old) → IsOk result }
-        ensures span { span self.new ≡ span self.old }
-        ensures keeps { keeps self.old self.new };
+        ensures memory { IsUnchanged told span keeps self.old self.new };
 
     /// Stores bytes from an address on, or answers the first address at which none stands, and stores none.
     fn store(&mut self, at: u64, bytes: &[u8]) -> Result<(), Bus>
@@ -38,10 +36,8 @@ pub trait Mem {
     /// Loads a number of two bytes, the low one first.
     fn load16(&mut self, at: u64) -> Result<u16, Bus>
         ensures loads { ForSome (told self.old) (λ m. LoadsNumber m at result) }
-        ensures told { told self.new ≡ told self.old }
         ensures spanned { InSpan (span self.old) at 2 → IsOk result }
-        ensures span { span self.new ≡ span self.old }
-        ensures keeps { keeps self.old self.new }
+        ensures memory { IsUnchanged told span keeps self.old self.new }
     {
         let mut bytes = [0; 2];
         self.load(at, &mut bytes)?;

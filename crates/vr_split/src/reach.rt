@@ -1,9 +1,10 @@
-// Loads and stores at addresses where they can't fail.
-ghost use Rattle.std.specs.Prelude.{◌≡◌, Some, Ok, length};
+//! Loads and stores at addresses where they can't fail.
+ghost use Rattle.std.specs.Prelude.{◌≡◌, Ok, length};
 ghost use Rattle.std.specs.Option.{ForSome};
 ghost use Rattle.byteorder.specs.Endian.{little_bytes};
 ghost use Rattle.vd_model.specs.Memory.{written, read};
 ghost use Rattle.vd_model.specs.Rings.{number16};
+ghost use Rattle.vr_split.specs.Mem.{IsUnchanged, Becomes};
 ghost use Rattle.vr_split.specs.Reach.{Reaches, KeepsReach};
 
 use crate::Mem;
@@ -11,10 +12,8 @@ use crate::Mem;
 /// Stores bytes that are in reach.
 pub fn store_in_reach<M: Mem>(mem: &mut M, at: u64, bytes: &[u8])
     requires { Reaches (M.told mem.old) (M.span mem.old) at (length bytes.now) }
-    ensures stored { ForSome (M.told mem.old) (λ m. M.told mem.new ≡ Some (written m at bytes.now)) }
-    ensures reach { KeepsReach (M.told mem.old) (M.told mem.new) (M.span mem.old) (M.span mem.new) }
-    ensures span { M.span mem.new ≡ M.span mem.old }
-    ensures keeps { M.keeps mem.old mem.new }
+    ensures stored { Becomes M.told mem.old mem.new (λ m. written m at bytes.now) }
+    ensures memory { KeepsReach M.told M.span M.keeps mem.old mem.new }
 {
     match mem.store(at, bytes) {
         Ok(()) => {}
@@ -25,10 +24,8 @@ pub fn store_in_reach<M: Mem>(mem: &mut M, at: u64, bytes: &[u8])
 /// Stores a number of two bytes that are in reach.
 pub fn store16_in_reach<M: Mem>(mem: &mut M, at: u64, value: u16)
     requires { Reaches (M.told mem.old) (M.span mem.old) at 2 }
-    ensures stored { ForSome (M.told mem.old) (λ m. M.told mem.new ≡ Some (written m at (little_bytes 2 value))) }
-    ensures reach { KeepsReach (M.told mem.old) (M.told mem.new) (M.span mem.old) (M.span mem.new) }
-    ensures span { M.span mem.new ≡ M.span mem.old }
-    ensures keeps { M.keeps mem.old mem.new }
+    ensures stored { Becomes M.told mem.old mem.new (λ m. written m at (little_bytes 2 value)) }
+    ensures memory { KeepsReach M.told M.span M.keeps mem.old mem.new }
 {
     match mem.store16(at, value) {
         Ok(()) => {}
@@ -40,9 +37,7 @@ pub fn store16_in_reach<M: Mem>(mem: &mut M, at: u64, value: u16)
 pub fn load_in_reach<M: Mem>(mem: &mut M, at: u64, out: &mut [u8])
     requires { Reaches (M.told mem.old) (M.span mem.old) at (length out.old) }
     ensures loaded { ForSome (M.told mem.old) (λ m. read m at (length out.old) ≡ Ok out.new) }
-    ensures told { M.told mem.new ≡ M.told mem.old }
-    ensures span { M.span mem.new ≡ M.span mem.old }
-    ensures keeps { M.keeps mem.old mem.new }
+    ensures memory { IsUnchanged M.told M.span M.keeps mem.old mem.new }
 {
     match mem.load(at, out) {
         Ok(()) => {}
@@ -54,9 +49,7 @@ pub fn load_in_reach<M: Mem>(mem: &mut M, at: u64, out: &mut [u8])
 pub fn load16_in_reach<M: Mem>(mem: &mut M, at: u64) -> u16
     requires { Reaches (M.told mem.old) (M.span mem.old) at 2 }
     ensures loaded { ForSome (M.told mem.old) (λ m. number16 m at ≡ Ok result) }
-    ensures told { M.told mem.new ≡ M.told mem.old }
-    ensures span { M.span mem.new ≡ M.span mem.old }
-    ensures keeps { M.keeps mem.old mem.new }
+    ensures memory { IsUnchanged M.told M.span M.keeps mem.old mem.new }
 {
     match mem.load16(at) {
         Ok(value) => value,

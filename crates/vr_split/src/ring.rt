@@ -1,4 +1,4 @@
-// How a ring is laid out, and when its other side wants to be told.
+//! How a ring is laid out, and when its other side wants to be told.
 ghost use Rattle.std.specs.Prelude.{◌≡◌, ◌+◌, ◌*◌, ◌%◌, ◌<◌, ◌≤◌};
 ghost use Rattle.vd_model.specs.Rings.{needs_event};
 

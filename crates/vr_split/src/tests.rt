@@ -3,7 +3,7 @@
 ghost use Rattle.std.specs.Prelude.{◌≡◌, Some, None, IfErr, OnOk};
 ghost use Rattle.std.specs.Option.{ForSome};
 ghost use Rattle.vd_model.specs.Memory.{bytes_from};
-ghost use Rattle.vr_split.specs.Mem.{LoadsNumber};
+ghost use Rattle.vr_split.specs.Mem.{LoadsNumber, IsUnchanged};
 
 use crate::reach::{load16_in_reach, store16_in_reach};
 use crate::{Layout, Mem, VecMem, layout_of, need_event};
@@ -99,8 +99,7 @@ impl Mem for Quiet {
 /// Loads a number twice, through any memory.
 fn twice<M: Mem>(mem: &mut M, at: u64) -> Result<u16, Bus>
     ensures loads { ForSome (M.told mem.old) (λ m. LoadsNumber m at result) }
-    ensures told { M.told mem.new ≡ M.told mem.old }
-    ensures keeps { M.keeps mem.old mem.new }
+    ensures memory { IsUnchanged M.told M.span M.keeps mem.old mem.new }
 {
     mem.load16(at)?;
     mem.load16(at)
@@ -111,7 +110,8 @@ fn twice_on_board(board: &mut Board, at: u64) -> Result<u16, Bus>
     ensures loads { LoadsNumber (bytes_from board.old.ram.base board.old.ram.bytes.items) at result }
     ensures count { board.new.count ≡ board.old.count }
     ensures base { board.new.ram.base ≡ board.old.ram.base }
-    ensures bytes { bytes_from board.new.ram.base board.new.ram.bytes.items ≡ bytes_from board.old.ram.base board.old.ram.bytes.items }
+    ensures bytes { bytes_from board.new.ram.base board.new.ram.bytes.items
+        ≡ bytes_from board.old.ram.base board.old.ram.bytes.items }
 {
     let mut mem = BoardMem { board };
     twice(&mut mem, at)

@@ -1,4 +1,4 @@
-// Memory that is a vector.
+//! Memory that is a vector.
 ghost use Rattle.std.specs.Prelude.{◌≡◌, ◌≤◌, ◌+◌, ◌^◌, ◌<◌, length, ◌++◌, take, drop, IfOk, IfErr, Err, Some, None, refl};
 ghost use Rattle.std.proofs.Common.{◌∙◌};
 ghost use Rattle.vd_model.specs.Memory.{bytes_from, read};

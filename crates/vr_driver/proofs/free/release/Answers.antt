@@ -3,7 +3,7 @@ use Rattle.std.specs.Prelude.{map}
 use Rattle.std.proofs.Math.ListN.{set}
 use Rattle.std.proofs.Math.Seq.{drop-cons, take-suc-set}
 use Rattle.std.proofs.lemmas.Grind.{common_steps}
-use Rattle.vr_driver.specs.Side.{left_by, released}
+use Rattle.vr_driver.specs.Side.{other_owner, without_owner}
 use Rattle.vr_driver.proofs.free.release.Goals as goal
 
 drop_past : {X : Type 0} (xs : List X) (i : ℕ) (x : X) → drop (suc i) (set xs i x) ≡ drop (suc i) xs
@@ -24,11 +24,11 @@ one_more f xs all i y h e before =
     rw (on, front, back) (joined ∙ same ∙ before)
 
 pub loop-i-preserved : goal.loop-i-preserved
-loop-i-preserved c = one_more (left_by c.args.head) c.loop-i.owners (released c.args.owners.now c.args.head) c.loop-i.i c.after_release.result (search rules) c.after_release.ensures c.loop-i.invariant
+loop-i-preserved c = one_more (other_owner c.args.head) c.loop-i.owners (without_owner c.args.owners.now c.args.head) c.loop-i.i c.after_release.result (search rules) c.after_release.ensures c.loop-i.invariant
 
 pub returns : goal.returns
 returns c =
     let none : drop c.loop-i.i c.loop-i.owners ≡ [] = grind (arith, common_steps) in
     let whole : take c.loop-i.i c.loop-i.owners ≡ c.loop-i.owners = grind (arith, common_steps) in
-    let split : take c.loop-i.i c.loop-i.owners ++ map (left_by c.args.head) (drop c.loop-i.i c.loop-i.owners) ≡ c.loop-i.owners = rw (none, whole) (search rules) in
+    let split : take c.loop-i.i c.loop-i.owners ++ map (other_owner c.args.head) (drop c.loop-i.i c.loop-i.owners) ≡ c.loop-i.owners = rw (none, whole) (search rules) in
     sym split ∙ c.loop-i.invariant

@@ -1,8 +1,10 @@
-use Rattle.std.proofs.Common.{◌≡◌, ℕ, suc, ◌+◌, List, length, get_or, nat_lt, Some, ap, ◌∙◌, refl, arith, rules}
+use Rattle.std.proofs.Common.{◌≡◌, ℕ, suc, ◌+◌, List, length, get_or, nat_lt, Some, ap, ◌∙◌, arith, rules}
 use Rattle.vd_model.specs.declared.parts.Part.{Part}
 use Rattle.vd_model.specs.declared.queue.RingPlace.{RingPlace}
 use Rattle.vd_model.specs.Memory.{Memory}
-use Rattle.vr_driver.specs.Driver.{chain_written, with_descriptor, flags_of, no_part}
+use Rattle.vd_model.specs.RingTurns.{flags_of}
+use Rattle.vr_split.specs.ReachLemmas.{KeepsReach-none, KeepsReach-more}
+use Rattle.vr_driver.specs.Driver.{chain_written, with_descriptor, no_part}
 use Rattle.vr_driver.proofs.table.write_chain.Goals as goal
 
 -- memory with one part more
@@ -17,9 +19,7 @@ pub loop-i-init : goal.loop-i-init
 unfolding chain_written
 loop-i-init g c = record {
   written = λ m told. told;
-  reach = λ at n h. h;
-  span = refl;
-  keeps = g.met.M.Mem.keeps_refl c.args.mem.now;
+  memory = KeepsReach-none g.met.M.Mem.keeps_refl c.args.mem.now;
 }
 
 pub loop-i-preserved : goal.loop-i-preserved
@@ -27,9 +27,7 @@ loop-i-preserved g c = record {
   written = λ m told.
       let before = c.loop-i.invariant.written m told in
       c.write_descriptor.ensures.written _ before ∙ ap Some (one_more m c.args.place.now c.args.parts.now c.args.indices.now c.loop-i.i _ c.flags.result (search rules) c.flags.ensures);
-  reach = λ at n h. c.write_descriptor.ensures.reach at n (c.loop-i.invariant.reach at n h);
-  span = c.write_descriptor.ensures.span ∙ c.loop-i.invariant.span;
-  keeps = g.met.M.Mem.keeps_trans _ _ _ c.loop-i.invariant.keeps c.write_descriptor.ensures.keeps;
+  memory = KeepsReach-more g.met.M.Mem.keeps_trans c.loop-i.invariant.memory c.write_descriptor.ensures.memory;
 }
 
 pub returns-clause-written : goal.returns-clause-written

@@ -1,6 +1,6 @@
 use Rattle.std.proofs.Common.{◌≡◌, Some, None}
 use Rattle.vd_model.specs.Memory.{bytes_from}
-use Rattle.vr_driver.specs.Driver.{RingInReach}
+use Rattle.vr_split.specs.Reach.{RingInReach}
 use Rattle.vr_driver.proofs.tests.count_rounds.Given as goal
 
 abbrev pub invariant-loop-round : goal.invariant-loop-round

@@ -2,7 +2,7 @@ use Rattle.std.proofs.Common.{◌≡◌, ◌+◌, ◌*◌, ◌≤◌, List, ℕ,
 use Rattle.vd_model.specs.Memory.{bytes_from}
 use Rattle.vd_model.specs.declared.queue.RingPlace.{RingPlace}
 use Rattle.vr_split.specs.ReachLemmas.{Reaches-bytes_from}
-use Rattle.vr_driver.specs.Driver.{RingInReach}
+use Rattle.vr_split.specs.Reach.{RingInReach}
 use Rattle.vr_driver.proofs.tests.page.Goals as goal
 
 -- a ring in a list of bytes

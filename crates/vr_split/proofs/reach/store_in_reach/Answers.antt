@@ -1,14 +1,18 @@
 use Rattle.std.proofs.Common.{Ok, Err}
-use Rattle.vr_split.specs.ReachLemmas.{stored-there, reach-stored}
+use Rattle.vr_split.specs.ReachLemmas.{store-there, reach-stored}
 use Rattle.vr_split.proofs.reach.store_in_reach.Goals as goal
 
 pub unreachable-requires : goal.unreachable-requires
 unreachable-requires g c =
-    let ok = stored-there (g.M.Mem.told c.args.mem.now) (g.M.Mem.told c.store.new.self) (g.M.Mem.span c.args.mem.now) c.args.at c.args.bytes.now (Err c.in-Err.field-0) c.in-Err.ensures.stores c.in-Err.ensures.spanned c.requires in
+    let ok = store-there (g.M.Mem.told c.args.mem.now) (g.M.Mem.told c.store.new.self) (g.M.Mem.span c.args.mem.now) c.args.at c.args.bytes.now (Err c.in-Err.field-0) c.in-Err.ensures.stores c.in-Err.ensures.spanned c.requires in
     cc
 
 pub returns-clause-stored : goal.returns-clause-stored
 returns-clause-stored g c m told = (c.in-Ok.ensures.stores m told).1
 
-pub returns-clause-reach : goal.returns-clause-reach
-returns-clause-reach g c = reach-stored (g.M.Mem.told c.args.mem.now) (g.M.Mem.told c.store.new.self) (g.M.Mem.span c.args.mem.now) (g.M.Mem.span c.store.new.self) c.args.at c.args.bytes.now (Ok c.in-Ok.field-0) c.in-Ok.ensures.stores c.in-Ok.ensures.span
+pub returns-clause-memory : goal.returns-clause-memory
+returns-clause-memory g c = record {
+  reach = reach-stored (g.M.Mem.told c.args.mem.now) (g.M.Mem.told c.store.new.self) (g.M.Mem.span c.args.mem.now) (g.M.Mem.span c.store.new.self) c.args.at c.args.bytes.now (Ok c.in-Ok.field-0) c.in-Ok.ensures.stores c.in-Ok.ensures.span;
+  same_span = c.in-Ok.ensures.span;
+  kept = c.in-Ok.ensures.keeps;
+}

@@ -1,22 +1,14 @@
-use Rattle.std.proofs.Common.{◌≡◌, ◌+◌, ◌*◌, ◌%◌, ◌<◌, ap, sym, subst, arith}
+use Rattle.std.proofs.Common.{◌≡◌, ℕ, ap, sym, subst, ◌∙◌}
 use Rattle.vd_model.specs.declared.queue.RingPlace.{RingPlace}
-use Rattle.vr_split.specs.ReachLemmas.{Reaches-ends}
+use Rattle.vr_split.specs.Reach.{Reaches, RingInReach}
+use Rattle.vr_split.specs.ReachLemmas.{ring_still, available_slot-reached}
 use Rattle.vr_driver.specs.Side.{DriverSide}
-use Rattle.vr_driver.specs.Driver.{RingInReach}
-use Rattle.vr_driver.proofs.FieldReach.{field_reached}
 use Rattle.vr_driver.proofs.ring.DriverRing.add.Goals as goal
-
-pub place_chain-head-requires-clause-fits : goal.place_chain-head-requires-clause-fits
-place_chain-head-requires-clause-fits g c =
-    let place : c.self.inside.place ≡ c.args.self.now.place = ap (λ (s : DriverSide). s.place) c.self.view_is in
-    let ring = subst (λ (p : RingPlace). RingInReach (g.M.Mem.told c.args.mem.now) (g.M.Mem.span c.args.mem.now) p) (sym place) c.requires.in_reach in
-    let some : 0 < c.self.inside.place.size = c.self.invariant.3 in
-    Reaches-ends (g.M.Mem.told c.args.mem.now) (g.M.Mem.span c.args.mem.now) c.self.inside.place.desc (16 * c.self.inside.place.size) (g.met.M.Mem.told_ends c.args.mem.now) (g.met.M.Mem.span_ends c.args.mem.now) (omega arith) ring.desc
 
 pub store16_in_reach-requires : goal.store16_in_reach-requires
 store16_in_reach-requires g c =
-    let place : c.self.inside.place ≡ c.args.self.now.place = ap (λ (s : DriverSide). s.place) c.self.view_is in
-    let ring = subst (λ (p : RingPlace). RingInReach (g.M.Mem.told c.args.mem.now) (g.M.Mem.span c.args.mem.now) p) (sym place) c.requires.in_reach in
-    let some : 0 < c.self.inside.place.size = c.self.invariant.3 in
-    let slot : c.self.inside.added % c.self.inside.place.size < c.self.inside.place.size = omega arith in
-    field_reached (g.M.Mem.told c.place_chain-head.new.mem) (g.M.Mem.span c.place_chain-head.new.mem) c.self.inside.place.driver (6 + 2 * c.self.inside.place.size) (4 + 2 * (c.self.inside.added % c.self.inside.place.size)) 2 c.available_slot-slot.result (g.met.M.Mem.told_ends c.place_chain-head.new.mem) (g.met.M.Mem.span_ends c.place_chain-head.new.mem) (omega arith) (omega arith) c.available_slot-slot.ensures (c.place_chain-head.ensures.reach c.self.inside.place.driver (6 + 2 * c.self.inside.place.size) ring.driver)
+    let place : c.self-2.inside.place ≡ c.args.self.now.place = ap (λ (s : DriverSide). s.place) (c.self-2.view_is ∙ c.place_chain-head.ensures.side) in
+    let still = ring_still c.place_chain-head.ensures.memory c.args.self.now.place c.requires.in_reach in
+    let ring = subst (λ (p : RingPlace). RingInReach (g.M.Mem.told c.place_chain-head.new.mem) (g.M.Mem.span c.place_chain-head.new.mem) p) (sym place) still in
+    subst (λ (a : ℕ). Reaches (g.M.Mem.told c.place_chain-head.new.mem) (g.M.Mem.span c.place_chain-head.new.mem) a 2) (sym c.available_slot.ensures)
+    (available_slot-reached (g.M.Mem.told c.place_chain-head.new.mem) (g.M.Mem.span c.place_chain-head.new.mem) c.self-2.inside.place (g.met.M.Mem.told_ends c.place_chain-head.new.mem) (g.met.M.Mem.span_ends c.place_chain-head.new.mem) c.self-2.invariant.3 c.self-2.inside.added ring.driver)
