@@ -1,0 +1,4 @@
+pub mod EachFrom
+pub mod Added
+pub mod Ranges
+pub mod Changed

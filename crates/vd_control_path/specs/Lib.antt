@@ -1,0 +1,4 @@
+-- The words of this crate's contracts.
+pub mod Acts
+pub mod Forms
+pub mod Stands
