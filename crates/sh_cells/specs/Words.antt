@@ -6,8 +6,8 @@ use Rattle.sh_cells.specs.declared.word.Side.{Side}
 use Rattle.sh_cells.specs.declared.word.Side.TheVariants.{First, Second}
 
 -- the number of a word: the stamp in its upper 48 bits, and the two bytes below, the first of them lowest
-abbrev pub number_of : Word → ℕ
-number_of w = w.stamp * 65536 + from_le_bytes w16 w.bytes
+abbrev pub word_number : Word → ℕ
+word_number w = w.stamp * 65536 + from_le_bytes w16 w.bytes
 
 -- and back: the word that a number stands for
 abbrev pub word_of : ℕ → Word

@@ -11,7 +11,7 @@ use crate::word::{Kind, Side, Word};
 use atomic_table::Table;
 use std::alloc::{AllocError, Global};
 use std::marker::Brand;
-use vd_num::{Bus, PAGE_SIZE};
+use vd_num::{Bus, SLOT_SIZE};
 
 /// All stamps that the passes of some cells may draw, together.
 const ALL_STAMPS: u64 = 1 << 47;
@@ -103,7 +103,7 @@ impl Cells {
         ensures bus { IfErr result (λ bus. (bus.at ≡ at) × (view (P.token pass.new) ≡ with_page_read (view (P.token pass.old)) (at / 4096) None)) }
     {
         let token = pass.token_mut();
-        match self.find_page(token, at / PAGE_SIZE) {
+        match self.find_page(token, at / SLOT_SIZE) {
             Some(side) => Ok(self.read_cell(token, side, at)),
             None => Err(Bus { at }),
         }

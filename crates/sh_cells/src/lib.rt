@@ -1,8 +1,8 @@
 //! Memory that threads share without a lock: words of two bytes, each with the stamp of the log
 //! entry that its bytes come from.
 //!
-//! It stands on `atomic_table`, whose single atomic steps it uses, and on `vd_num` for `Bus`. What
-//! runs the shared device stands on it. No call waits, takes a lock or a runtime, and only
+//! It stands on `atomic_table`, whose single atomic steps it uses, and on `vd_num` for `Bus`. The
+//! running device stands on it. No call waits, takes a lock or a runtime, and only
 //! `Cells::new` takes memory. In any schedule each call adds exactly what it did to the view of its
 //! pass, and `close` hands out the log, in which each word that was read is zero or was put there.
 #![tactic(auto)]

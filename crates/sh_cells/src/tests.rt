@@ -1,3 +1,5 @@
+//! Cells that several threads share.
+
 ghost use Rattle.std.specs.Prelude.{◌≡◌, ◌≤◌};
 ghost use Rattle.sh_cells.specs.Passes.{view, pages_of, IsOf};
 

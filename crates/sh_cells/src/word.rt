@@ -1,6 +1,6 @@
 //! A word of the shared memory, and the sides that it can lie on.
 ghost use Rattle.std.specs.Prelude.{◌≡◌, ◌<◌, ◌^◌};
-ghost use Rattle.sh_cells.specs.Words.{word_of, number_of, side_of, side_number};
+ghost use Rattle.sh_cells.specs.Words.{word_of, word_number, side_of, side_number};
 
 /// Two bytes, and the stamp of the entry that they come from: 0 for the word that nothing wrote.
 #[derive(Clone, Copy, Debug, PartialEq, Eq)]
@@ -32,7 +32,7 @@ pub enum Kind {
 impl Word {
     /// The number that a cell holds for the word: the stamp in the upper 48 bits, the bytes below.
     pub(crate) fn number(self) -> u64
-        ensures exact { self.stamp < 2 ^ 48 → result ≡ number_of self }
+        ensures exact { self.stamp < 2 ^ 48 → result ≡ word_number self }
         ensures back { self.stamp < 2 ^ 48 → word_of result ≡ self }
     {
         (self.stamp << 16) + u64::from(u16::from_le_bytes(self.bytes))

@@ -8,7 +8,7 @@ use Rattle.atomic_table.specs.Table.{State, step, keeps, Allows, Splits, Joins}
 use Rattle.atomic_table.proofs.Lists.{at_set, set_else}
 use Rattle.sh_parts.specs.declared.entry.Entry.{Entry}
 use Rattle.sh_parts.specs.declared.view.View.{View}
-use Rattle.sh_parts.specs.Views.{keeper, nobody, with_entry, all_noted, last_note, meeting, parted}
+use Rattle.sh_parts.specs.Views.{keeper, nobody, with_entry, all_noted, last_note, meeting, without_meeting}
 use Rattle.sh_parts.specs.Rule.{IsNoted, Fits, Kept}
 use Rattle.sh_parts.specs.Steps.{Saw, Appends, Looks}
 use Rattle.sh_parts.proofs.Fronts.{prefix_longer, prefix_either}
@@ -76,7 +76,7 @@ pub look_allowed : (slots id : ℕ) (m : Saw)
     → Allows (λ s. Kept s.views) slots id m 0 (λ n. n) (Looks (step slots 0 0 0 none) m)
 look_allowed slots id m s (seat, journal, noted, owner, within, each) wide here bound =
     let v : View = m.0 in
-    let w : View = parted v in
+    let w : View = without_meeting v in
     let mine = each id v here in
     let F : ℕ → View → Type 0 = Fits seat journal noted owner in
     let F_mine : F id w = (mine.0, mine.1, (λ c. absurd (off c))) in (

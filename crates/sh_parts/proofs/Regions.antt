@@ -3,7 +3,7 @@ use Rattle.std.proofs.Common.{◌≡◌, ◌≢◌, ℕ, ◌*◌, ◌<◌, ◌�
 use Rattle.std.proofs.lemmas.Bool.Decides.{nat_tests}
 use Rattle.vd_model.specs.declared.memory.Region.{Region}
 use Rattle.vd_model.specs.AreaTurns.{overlaps, lower, lowest, first_region}
-use Rattle.vd_regions.specs.Ordered.{placed}
+use Rattle.vd_regions.specs.Ordered.{with_region}
 use Rattle.sh_parts.specs.declared.memory.Live.{Live}
 use Rattle.sh_parts.specs.Memory.{range_of, IsNew, AreApart, IsIn, HaveSame}
 
@@ -16,17 +16,17 @@ in_push q r (s ∷ rs) = (
   (λ i. ⊎_elim (λ (e : r ≡ q). inr ((in_push q r rs).1 (inl e))) (λ (j : IsIn q (s ∷ rs)). ⊎_elim (λ (e : s ≡ q). inl e) (λ (k : IsIn q rs). inr ((in_push q r rs).1 (inr k))) j) i),
 )
 
-pub in_placed : (q r : Region) (rs : List Region) → (IsIn q (placed r rs) → (r ≡ q) ⊎ IsIn q rs) × ((r ≡ q) ⊎ IsIn q rs → IsIn q (placed r rs))
+pub in_placed : (q r : Region) (rs : List Region) → (IsIn q (with_region r rs) → (r ≡ q) ⊎ IsIn q rs) × ((r ≡ q) ⊎ IsIn q rs → IsIn q (with_region r rs))
 in_placed q r [] = ((λ i. i), (λ i. i))
 in_placed q r (s ∷ rs) = by (nat_lt r.start s.start) refl (in_placed q r rs) where
-  by : (b : Bool) → nat_lt r.start s.start ≡ b → (IsIn q (placed r rs) → (r ≡ q) ⊎ IsIn q rs) × ((r ≡ q) ⊎ IsIn q rs → IsIn q (placed r rs))
-      → (IsIn q (placed r (s ∷ rs)) → (r ≡ q) ⊎ IsIn q (s ∷ rs)) × ((r ≡ q) ⊎ IsIn q (s ∷ rs) → IsIn q (placed r (s ∷ rs)))
+  by : (b : Bool) → nat_lt r.start s.start ≡ b → (IsIn q (with_region r rs) → (r ≡ q) ⊎ IsIn q rs) × ((r ≡ q) ⊎ IsIn q rs → IsIn q (with_region r rs))
+      → (IsIn q (with_region r (s ∷ rs)) → (r ≡ q) ⊎ IsIn q (s ∷ rs)) × ((r ≡ q) ⊎ IsIn q (s ∷ rs) → IsIn q (with_region r (s ∷ rs)))
   by true e rest =
-      let is : placed r (s ∷ rs) ≡ r ∷ s ∷ rs = ap (λ b. if b then r ∷ s ∷ rs else s ∷ placed r rs) e in
+      let is : with_region r (s ∷ rs) ≡ r ∷ s ∷ rs = ap (λ b. if b then r ∷ s ∷ rs else s ∷ with_region r rs) e in
       (subst (IsIn q) is, subst (IsIn q) (sym is))
   by false e rest =
-      let is : placed r (s ∷ rs) ≡ s ∷ placed r rs = ap (λ b. if b then r ∷ s ∷ rs else s ∷ placed r rs) e in (
-        (λ i. ⊎_elim (λ (x : s ≡ q). inr (inl x)) (λ (j : IsIn q (placed r rs)). ⊎_elim (λ (x : r ≡ q). inl x) (λ (k : IsIn q rs). inr (inr k)) (rest.0 j)) (subst (IsIn q) is i)),
+      let is : with_region r (s ∷ rs) ≡ s ∷ with_region r rs = ap (λ b. if b then r ∷ s ∷ rs else s ∷ with_region r rs) e in (
+        (λ i. ⊎_elim (λ (x : s ≡ q). inr (inl x)) (λ (j : IsIn q (with_region r rs)). ⊎_elim (λ (x : r ≡ q). inl x) (λ (k : IsIn q rs). inr (inr k)) (rest.0 j)) (subst (IsIn q) is i)),
         (λ i. subst (IsIn q) (sym is) (⊎_elim (λ (x : r ≡ q). inr (rest.1 (inl x))) (λ (j : IsIn q (s ∷ rs)). ⊎_elim (λ (x : s ≡ q). inl x) (λ (k : IsIn q rs). inr (rest.1 (inr k))) j) i)),
       )
 

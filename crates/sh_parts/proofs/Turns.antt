@@ -6,15 +6,15 @@ use Rattle.std.proofs.lemmas.Bool.Decides.{nat_tests}
 use Rattle.std.specs.Prelude.{Result, Ok, Err, is_err, OnOk, OnErr}
 use Rattle.vd_model.specs.declared.memory.Region.{Region}
 use Rattle.vd_model.specs.Acts.{Act}
-use Rattle.vd_model.specs.Live.{live, live_regions, is_bounce_live}
-use Rattle.vd_model.specs.AreaTurns.{overlaps, lowest, first_region, daemon_regions, region_of}
-use Rattle.vd_model.specs.Place.{place_of, taken, mapping_slots}
-use Rattle.vd_regions.specs.Ordered.{placed}
+use Rattle.vd_model.specs.Live.{live_mappings, live_regions, is_bounce_live}
+use Rattle.vd_model.specs.AreaTurns.{read_write, overlaps, lowest, first_region, daemon_regions, region_of}
+use Rattle.vd_model.specs.Place.{place_of, taken_slots, mapping_slots}
+use Rattle.vd_regions.specs.Ordered.{with_region}
 use Rattle.vd_iova.specs.Space.{Space, taken_of, taken_at}
 use Rattle.sh_parts.specs.declared.memory.Live.{Live}
 use Rattle.sh_parts.specs.declared.memory.Memory.{Memory}
 use Rattle.sh_parts.specs.declared.entry.DomainAnswer.{DomainAnswer}
-use Rattle.sh_parts.specs.Legal.{Numbers, DomainTurn, domain_turn, setting_of, refused, found}
+use Rattle.sh_parts.specs.Legal.{Numbers, DomainTurn, domain_turn, setting_of, domain_refusal, domain_found}
 use Rattle.sh_parts.specs.declared.entry.DomainStep.TheVariants as asks
 use Rattle.vd_num.specs.declared.number.Range.{Range}
 use Rattle.vd_num.specs.declared.errno.Errno.TheVariants.{Inval}
@@ -107,25 +107,25 @@ module _ {A : Type 0} (keep : A → Live) (number : ℕ) (xs : List A) where
 -- ---- the place
 
 module _ (x : Numbers) (done : List Act) (m : Memory) (sound : IsSound m) (s : Stands x done m) (n : ℕ) where
-  all_taken : map slots_of m.mappings.items ++ map slots_of m.areas.items ≡ taken done
+  all_taken : map slots_of m.mappings.items ++ map slots_of m.areas.items ≡ taken_slots done
   all_taken =
-      ap (λ l. l ++ map slots_of m.areas.items) (ap (map slots_of) s.mappings ∙ map_twice slots_of kept_mapping (live done))
-      ∙ ap (λ l. map mapping_slots (live done) ++ l) (ap (map slots_of) s.areas ∙ map_twice slots_of kept_region (live_regions done))
+      ap (λ l. l ++ map slots_of m.areas.items) (ap (map slots_of) s.mappings ∙ map_twice slots_of kept_mapping (live_mappings done))
+      ∙ ap (λ l. map mapping_slots (live_mappings done) ++ l) (ap (map slots_of) s.areas ∙ map_twice slots_of kept_region (live_regions done))
 
-  pub bounce_place : place_of (taken_of m.bounce) n m.bounce.first m.bounce.«end» ≡ place_of (taken done) n 1 x.bounce
+  pub bounce_place : place_of (taken_of m.bounce) n m.bounce.first m.bounce.«end» ≡ place_of (taken_slots done) n 1 x.bounce
   bounce_place =
       low_place m.next 1 m.bounce_pages m.coherent.«end» m.mappings.items m.areas.items m.bounce m.coherent sound.mappings sound.areas n
-      ∙ ap (λ l. place_of l n 1 m.bounce_pages) all_taken ∙ ap (place_of (taken done) n 1) s.bounce
+      ∙ ap (λ l. place_of l n 1 m.bounce_pages) all_taken ∙ ap (place_of (taken_slots done) n 1) s.bounce
 
-  pub coherent_place : place_of (taken_of m.coherent) n m.coherent.first m.coherent.«end» ≡ place_of (taken done) n x.bounce x.pages
+  pub coherent_place : place_of (taken_of m.coherent) n m.coherent.first m.coherent.«end» ≡ place_of (taken_slots done) n x.bounce x.pages
   coherent_place =
       high_place m.next 1 m.bounce_pages m.coherent.«end» m.mappings.items m.areas.items m.bounce m.coherent sound.mappings sound.areas n
       ∙ ap (λ l. place_of l n m.bounce_pages m.coherent.«end») all_taken
-      ∙ ap (λ lo. place_of (taken done) n lo m.coherent.«end») s.bounce ∙ ap (place_of (taken done) n x.bounce) s.pages
+      ∙ ap (λ lo. place_of (taken_slots done) n lo m.coherent.«end») s.bounce ∙ ap (place_of (taken_slots done) n x.bounce) s.pages
 
 -- ---- the regions
 
-pub same_push : (qs ps : List Region) (ks ls : List Live) (k : Live) → HaveSame qs (map range_of ks) → ps ≡ placed (range_of k) qs → ls ≡ ks ++ k ∷ [] → HaveSame ps (map range_of ls)
+pub same_push : (qs ps : List Region) (ks ls : List Live) (k : Live) → HaveSame qs (map range_of ks) → ps ≡ with_region (range_of k) qs → ls ≡ ks ++ k ∷ [] → HaveSame ps (map range_of ls)
 same_push qs ps ks ls k same is more =
     let seen : map range_of ls ≡ map range_of ks ++ range_of k ∷ [] = ap (map range_of) more ∙ map-append range_of ks (k ∷ []) in
     λ r. (
@@ -203,7 +203,7 @@ by_turn x done t u answer m e says stands = subst (λ (v : DomainTurn). (answer 
 -- a lookup is no act
 pub lookup_acts : (x : Numbers) (done : List Act) (range : Range) → (domain_turn x done (asks.Lookup range)).acts ≡ []
 lookup_acts x done range = by (nat_lt range.last range.start) (first_region (daemon_regions (setting_of x) done) range.start range.last) where
-  by : (b : Bool) (o : Option Region) → (if b then refused Inval else option_map_or found o (refused Inval)).acts ≡ []
+  by : (b : Bool) (o : Option Region) → (if b then domain_refusal Inval else option_map_or domain_found o (domain_refusal Inval)).acts ≡ []
   by true o = refl
   by false None = refl
   by false (Some r) = refl
@@ -216,11 +216,11 @@ module _ (x : Numbers) (done : List Act) (m : Memory) (sound : IsSound m) (s : S
   skip other false e = ap (λ b. first_region ((if b then bounce ∷ [] else []) ++ map region_of (live_regions done)) start last) e
     where
       bounce : Region
-      bounce = record { start = 0; last = 4096 * x.bounce - 1; offset = 0; perm = 3 }
+      bounce = record { start = 0; last = 4096 * x.bounce - 1; offset = 0; perm = read_write }
   skip (inl never) true e = absurd (true≢false (sym e ∙ sym s.mapped ∙ never))
   skip (inr past) true e = ap (λ b. first_region ((if b then bounce ∷ [] else []) ++ map region_of (live_regions done)) start last) e ∙ ap (λ b. lowest (cond b (bounce ∷ rest) rest)) (outside past sound.some s.bounce) where
     bounce : Region
-    bounce = record { start = 0; last = 4096 * x.bounce - 1; offset = 0; perm = 3 }
+    bounce = record { start = 0; last = 4096 * x.bounce - 1; offset = 0; perm = read_write }
 
     rest : List Region
     rest = filter (overlaps start last) (map region_of (live_regions done))

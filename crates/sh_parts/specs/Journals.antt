@@ -36,13 +36,15 @@ pub record StateView : Type 0 where
   pub entries : List Entry
   pub noted : ℕ
 
--- the messages before they have a name: their journal's table, and their timeout in seconds
+-- the messages before they have a name: their journal's table and entries, and their timeout in seconds
 pub record NewMessagesView : Type 0 where
   pub table : TableId
+  pub entries : List Entry
   pub timeout : ℕ
 
--- the memory before it has a name: its journal's table, its bounce pages and all its pages
+-- the memory before it has a name: its journal's table and entries, its bounce pages and all its pages
 pub record NewDomainView : Type 0 where
   pub table : TableId
+  pub entries : List Entry
   pub bounce : ℕ
   pub pages : ℕ

@@ -8,11 +8,11 @@ use Rattle.vd_model.specs.declared.memory.Region.{Region}
 use Rattle.vd_model.specs.declared.memory.Dir.{Dir}
 use Rattle.vd_model.specs.Setting.{Setting, bounce_size}
 use Rattle.vd_model.specs.Acts.{Act, Node, Driver, Registered, Deregistered, Mapped, Unmapped, Region_made, Region_freed}
-use Rattle.vd_model.specs.Live.{maps, regions, live, live_regions, registered}
-use Rattle.vd_model.specs.Place.{place_of, taken}
+use Rattle.vd_model.specs.Live.{maps, regions, live_mappings, live_regions, registration_of}
+use Rattle.vd_model.specs.Place.{place_of, taken_slots}
 use Rattle.vd_model.specs.DriverTurns.{want_of}
 use Rattle.vd_model.specs.AreaTurns.{daemon_regions, first_region}
-use Rattle.vd_model.specs.Messages.{MessageAct, MessageCall, Start, run, is_broken, is_held, next, next_id, id_limit, told, Sending, Receiving, Answering, Losing, Ticking, Taking}
+use Rattle.vd_model.specs.Messages.{MessageAct, MessageCall, MessageStart, message_run, is_broken, is_held, next_message, next_id, id_limit, message_told, Sending, Receiving, Answering, Losing, Ticking, Taking}
 use Rattle.vd_msg.specs.Stands.{sent_of}
 use Rattle.sh_parts.specs.declared.entry.JournalKind.{JournalKind}
 use Rattle.sh_parts.specs.declared.entry.JournalKind.TheVariants as kind
@@ -44,8 +44,8 @@ pub record DomainTurn : Type 0 where
   pub answer : DomainAnswer
   pub acts : List Act
 
-abbrev pub refused : Errno → DomainTurn
-refused e = record { answer = says.Err e; acts = [] }
+abbrev pub domain_refusal : Errno → DomainTurn
+domain_refusal e = record { answer = says.Err e; acts = [] }
 
 abbrev pub done_by : Act → DomainTurn
 done_by act = record { answer = says.Done; acts = act ∷ [] }
@@ -68,28 +68,28 @@ region_at done len slot = record {
   acts = Driver (Region_made (record { number = next_number done; slot = slot; len = len })) ∷ [];
 }
 
-abbrev pub found : Region → DomainTurn
-found r = record { answer = says.Found r; acts = [] }
+abbrev pub domain_found : Region → DomainTurn
+domain_found r = record { answer = says.Found r; acts = [] }
 
 -- what a step answers after some acts, and the acts that it is
 abbrev pub domain_turn : Numbers → List Act → DomainStep → DomainTurn
 domain_turn x done (domain.Map len dir) =
-    if len == 0 then refused errno.Inval
-    else option_map_or (mapping_at done len dir) (place_of (taken done) (pages_of len) 1 x.bounce) (refused errno.Nospc)
+    if len == 0 then domain_refusal errno.Inval
+    else option_map_or (mapping_at done len dir) (place_of (taken_slots done) (pages_of len) 1 x.bounce) (domain_refusal errno.Nospc)
 domain_turn x done (domain.Unmap number) =
-    option_map_or (λ m. done_by (Driver (Unmapped m))) (find (λ m. m.number == number) (live done)) (refused errno.Noent)
+    option_map_or (λ m. done_by (Driver (Unmapped m))) (find (λ m. m.number == number) (live_mappings done)) (domain_refusal errno.Noent)
 domain_turn x done (domain.Coherent len) =
-    if len == 0 then refused errno.Inval
-    else option_map_or (region_at done len) (place_of (taken done) (pages_of len) x.bounce x.pages) (refused errno.Nospc)
+    if len == 0 then domain_refusal errno.Inval
+    else option_map_or (region_at done len) (place_of (taken_slots done) (pages_of len) x.bounce x.pages) (domain_refusal errno.Nospc)
 domain_turn x done (domain.FreeCoherent number) =
-    option_map_or (λ r. done_by (Driver (Region_freed r))) (find (λ r. r.number == number) (live_regions done)) (refused errno.Noent)
+    option_map_or (λ r. done_by (Driver (Region_freed r))) (find (λ r. r.number == number) (live_regions done)) (domain_refusal errno.Noent)
 domain_turn x done (domain.Lookup range) =
-    if nat_lt range.last range.start then refused errno.Inval
-    else option_map_or found (first_region (daemon_regions (setting_of x) done) range.start range.last) (refused errno.Inval)
+    if nat_lt range.last range.start then domain_refusal errno.Inval
+    else option_map_or domain_found (first_region (daemon_regions (setting_of x) done) range.start range.last) (domain_refusal errno.Inval)
 domain_turn x done domain.Register =
-    if is_some (registered done) then refused errno.Exist else done_by (Node (Registered 0 (bounce_size (setting_of x))))
+    if is_some (registration_of done) then domain_refusal errno.Exist else done_by (Node (Registered 0 (bounce_size (setting_of x))))
 domain_turn x done domain.Deregister =
-    if is_some (registered done) then done_by (Node Deregistered) else refused errno.Noent
+    if is_some (registration_of done) then done_by (Node Deregistered) else domain_refusal errno.Noent
 
 -- the acts that some entries are
 abbrev pub domain_acts : Numbers → List Entry → List Act
@@ -100,8 +100,8 @@ domain_acts x (entry.Message step moment answer ∷ before) = domain_acts x befo
 -- ---- the messages
 
 -- the first message has the id 0
-abbrev pub start_of : Numbers → Start
-start_of x = record { timeout = x.timeout; first = 0 }
+abbrev pub message_start : Numbers → MessageStart
+message_start x = record { timeout = x.timeout; first = 0 }
 
 -- the call on the messages that a step is
 abbrev pub call_of : MessageStep → ℕ → MessageCall
@@ -119,20 +119,20 @@ calls_of (entry.Domain step answer ∷ before) = calls_of before
 calls_of (entry.Message step moment answer ∷ before) = call_of step moment ∷ calls_of before
 
 -- the acts that some entries are
-abbrev pub message_acts : Numbers → List Entry → List MessageAct
-message_acts x before = run (start_of x) (calls_of before)
+abbrev pub acts_of_entries : Numbers → List Entry → List MessageAct
+acts_of_entries x before = message_run (message_start x) (calls_of before)
 
 -- what a step answers after some acts
-abbrev pub message_answer : Start → List MessageAct → MessageStep → MessageAnswer
+abbrev pub message_answer : MessageStart → List MessageAct → MessageStep → MessageAnswer
 message_answer start done (message.Send body) =
     if is_broken done then tells.Err errno.Io
     else if next_id start done == id_limit then tells.Err errno.Nospc
     else tells.Id (next_id start done)
-message_answer start done message.Recv = tells.Got (option_map sent_of (next done))
+message_answer start done message.Recv = tells.Got (option_map sent_of (next_message done))
 message_answer start done (message.Answer id result avail) = tells.Answered (is_held done id)
 message_answer start done message.Lost = tells.Done
 message_answer start done message.Tick = tells.Done
-message_answer start done (message.Take id) = tells.Taken (told done id)
+message_answer start done (message.Take id) = tells.Taken (message_told done id)
 
 -- the time: the moment of the last tick, 0 before the first
 abbrev pub now_of : List Entry → ℕ
@@ -157,7 +157,7 @@ IsMoment before _ moment = moment ≡ now_of before
 abbrev pub IsRight : Numbers → JournalKind → List Entry → Entry → Type 0
 IsRight x kind.Domain before (entry.Domain step answer) = answer ≡ (domain_turn x (domain_acts x before) step).answer
 IsRight x kind.Messages before (entry.Message step moment answer) =
-    IsMoment before step moment × (answer ≡ message_answer (start_of x) (message_acts x before) step)
+    IsMoment before step moment × (answer ≡ message_answer (message_start x) (acts_of_entries x before) step)
 IsRight x _ before _ = ⊥
 
 -- each entry is right

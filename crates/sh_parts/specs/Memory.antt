@@ -3,8 +3,9 @@ use Rattle.std.specs.Prelude.{ℕ, ◌≡◌, ◌≢◌, ◌⊎◌, ◌+◌, ◌
 use Rattle.vd_num.specs.Number.{pages_of}
 use Rattle.vd_model.specs.declared.memory.Region.{Region}
 use Rattle.vd_model.specs.Acts.{Act, Streaming, Coherent}
-use Rattle.vd_model.specs.Live.{live, live_regions, registered, is_bounce_live}
+use Rattle.vd_model.specs.Live.{live_mappings, live_regions, registration_of, is_bounce_live}
 use Rattle.vd_model.specs.Place.{Slots}
+use Rattle.vd_model.specs.AreaTurns.{read_write}
 use Rattle.vd_iova.specs.Space.{Space, taken_at}
 use Rattle.sh_parts.specs.declared.entry.DomainStep.{DomainStep}
 use Rattle.sh_parts.specs.declared.entry.DomainAnswer.{DomainAnswer}
@@ -24,7 +25,7 @@ abbrev pub slots_of : Live → Slots
 slots_of k = record { start = k.page; count = k.count }
 
 abbrev pub range_of : Live → Region
-range_of k = record { start = 4096 * k.page; last = 4096 * (k.page + k.count) - 1; offset = 4096 * k.page; perm = 3 }
+range_of k = record { start = 4096 * k.page; last = 4096 * (k.page + k.count) - 1; offset = 4096 * k.page; perm = read_write }
 
 -- none of them has its number or its first page
 abbrev pub IsNew : Live → List Live → Type 0
@@ -72,8 +73,8 @@ pub record Stands (x : Numbers) (done : List Act) (m : Memory) : Type 0 where
   pub pages : m.coherent.«end» ≡ x.pages
   pub next : m.next ≡ next_number done
   pub mapped : m.mapped ≡ is_bounce_live done
-  pub registered : m.registered ≡ is_some (registered done)
-  pub mappings : m.mappings.items ≡ map kept_mapping (live done)
+  pub registered : m.registered ≡ is_some (registration_of done)
+  pub mappings : m.mappings.items ≡ map kept_mapping (live_mappings done)
   pub areas : m.areas.items ≡ map kept_region (live_regions done)
 
 -- the step is answered so, and what is kept stands for its acts too

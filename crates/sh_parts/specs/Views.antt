@@ -37,5 +37,5 @@ abbrev pub meeting : View → View → View
 meeting v w = record v { met = w.claims; met_entries = w.entries; met_place = w.place }
 
 -- a look lets go of it
-abbrev pub parted : View → View
-parted v = record v { met = false; met_entries = []; met_place = 0 }
+abbrev pub without_meeting : View → View
+without_meeting v = record v { met = false; met_entries = []; met_place = 0 }

@@ -49,7 +49,7 @@ pub struct SharedDomain<N: Naming> {
 }
 
 /// The memory of a device that has no name yet, with an empty journal. In contracts it is its
-/// journal's table and its two numbers of pages.
+/// journal's table and entries, and its two numbers of pages.
 #[derive(Drop)]
 pub struct NewDomain {
     journal: NewJournal,
@@ -64,7 +64,7 @@ impl Model for NewDomain {
 
     ghost Value = { NewDomainView };
 
-    ghost view = { λ d. record { table = d.journal.seat.table_id; bounce = d.memory.bounce_pages; pages = d.memory.coherent.«end» } };
+    ghost view = { λ d. record { table = d.journal.seat.table_id; entries = d.journal.entries.items; bounce = d.memory.bounce_pages; pages = d.memory.coherent.«end» } };
 
     ghost invariant = { λ d. (d.journal.kind ≡ Domain)
         × IsSound d.memory
@@ -77,7 +77,8 @@ impl SharedDomain<Brand> {
     /// is mapped. It gets its name by `named`.
     pub fn new(alloc: Global, bounce_pages: u32, pages: u32) -> Result<NewDomain, AllocError>
         requires { (2 ≤ bounce_pages) × (bounce_pages < pages) × (pages ≤ 4096) }
-        ensures { IfOk result (λ d. (d.bounce ≡ bounce_pages) × (d.pages ≡ pages)) }
+        ensures empty { IfOk result (λ d. d.entries ≡ []) }
+        ensures numbers { IfOk result (λ d. (d.bounce ≡ bounce_pages) × (d.pages ≡ pages)) }
     {
         Ok(NewDomain {
             journal: NewJournal::new(alloc, JournalKind::Domain)?,
@@ -91,7 +92,8 @@ impl NewDomain {
     pub fn into_state<N: Naming>(self) -> DomainState<N>
         requires table { self.table ≡ N.domain }
         requires numbers { (self.bounce ≡ N.numbers.bounce) × (self.pages ≡ N.numbers.pages) }
-        ensures { (result.entries ≡ []) × (result.noted ≡ 0) }
+        ensures same { result.entries ≡ self.entries }
+        ensures empty { (result.entries ≡ []) × (result.noted ≡ 0) }
     {
         let NewDomain { journal, memory } = self;
         DomainState {
@@ -137,7 +139,7 @@ impl<N: Naming> DomainState<N> {
 
     /// Whether a live mapping has this bounce page.
     pub fn in_use(&self, page: u32) -> bool
-        ensures { result ≡ acts.in_use 1 (domain_acts N.numbers (reverse self.now.entries)) page }
+        ensures { result ≡ acts.is_in_use 1 (domain_acts N.numbers (reverse self.now.entries)) page }
     {
         self.memory.in_use(page)
     }

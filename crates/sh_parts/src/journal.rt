@@ -41,7 +41,7 @@ pub(crate) struct NewJournal {
     pub(crate) kind: JournalKind,
     table: Table<(), View, (), JournalRule, Global>,
     pub(crate) seat: Seat<(), View>,
-    entries: Vec<Entry>,
+    pub(crate) entries: Vec<Entry>,
     ghost seat_of: { seat.table_id ≡ table.shared.table_id },
     ghost one_word: { table.shared.table_id.words ≡ 1 },
     ghost empty: { entries.items ≡ [] },

@@ -2,7 +2,8 @@
 ghost use Rattle.std.specs.Prelude.{◌≡◌, ◌≤◌, ◌<◌, ◌+◌, ◌-◌, ◌*◌, ◌^◌, ℕ, List, [], IfOk, OnErr, find, filter, not, ◌==◌, nat_le, nat_lt, ◌&&◌};
 ghost use Rattle.std.specs.List.{list_any};
 ghost use Rattle.vd_model.specs.Acts.{Act};
-ghost use Rattle.vd_model.specs.Live.{in_use};
+ghost use Rattle.vd_model.specs.AreaTurns.{read_write};
+ghost use Rattle.vd_model.specs.Live.{is_in_use};
 ghost use Rattle.vd_model.specs.declared.memory.Dir.{Dir};
 ghost use Rattle.sh_parts.specs.declared.entry.DomainStep.TheVariants as asks;
 ghost use Rattle.sh_parts.specs.Legal.{Numbers, domain_turn};
@@ -12,7 +13,7 @@ use crate::entry::{DomainAnswer, DomainStep};
 use std::alloc::{AllocError, Global};
 use vd_iova::Iova;
 use vd_model::Region;
-use vd_num::{Errno, PAGE_SIZE, Range, pages};
+use vd_num::{Errno, Range, SLOT_SIZE, pages};
 use vd_regions::Regions;
 
 /// A live mapping or coherent region: its number, its first page, and how many pages it has.
@@ -45,14 +46,14 @@ pub(crate) struct Memory {
 /// Some pages as a daemon sees them: it may read and write them.
 fn region_of(page: u64, count: u64) -> Region
     requires { (1 ≤ count) × (page + count ≤ 4096) }
-    ensures { result ≡ record { start = 4096 * page; last = 4096 * (page + count) - 1; offset = 4096 * page; perm = 3 } }
+    ensures { result ≡ record { start = 4096 * page; last = 4096 * (page + count) - 1; offset = 4096 * page; perm = read_write } }
 {
-    let start = PAGE_SIZE * page;
+    let start = SLOT_SIZE * page;
     Region {
         start,
-        last: PAGE_SIZE * (page + count) - 1,
+        last: SLOT_SIZE * (page + count) - 1,
         offset: start,
-        perm: 3,
+        perm: Region::READ_WRITE,
     }
 }
 
@@ -146,7 +147,7 @@ impl Memory {
         self.mapped = true;
         Ok(DomainAnswer::Mapped {
             number,
-            iova: PAGE_SIZE * page,
+            iova: SLOT_SIZE * page,
         })
     }
 
@@ -194,7 +195,7 @@ impl Memory {
         self.next += 1;
         Ok(DomainAnswer::Mapped {
             number,
-            iova: PAGE_SIZE * page,
+            iova: SLOT_SIZE * page,
         })
     }
 
@@ -209,7 +210,7 @@ impl Memory {
         };
         drop_live(&mut self.areas, number);
         self.coherent.give(live.page);
-        self.regions.remove(PAGE_SIZE * live.page);
+        self.regions.remove(SLOT_SIZE * live.page);
         DomainAnswer::Done
     }
 
@@ -221,7 +222,7 @@ impl Memory {
             return DomainAnswer::Err(Errno::Inval);
         }
         // The bounce memory starts below every coherent region.
-        if self.mapped && range.start < PAGE_SIZE * self.bounce_pages {
+        if self.mapped && range.start < SLOT_SIZE * self.bounce_pages {
             return DomainAnswer::Found(region_of(0, self.bounce_pages));
         }
         match self.regions.first(range) {
@@ -259,7 +260,7 @@ impl Memory {
     /// Whether a live mapping has this bounce page.
     pub(crate) fn in_use(&self, page: u32) -> bool
         requires sound { IsSound self.now }
-        ensures { (x : Numbers) (done : List Act) → Stands x done self.now → result ≡ in_use 1 done page }
+        ensures { (x : Numbers) (done : List Act) → Stands x done self.now → result ≡ is_in_use 1 done page }
     {
         covers(&self.mappings, u64::from(page))
     }

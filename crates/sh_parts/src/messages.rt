@@ -1,11 +1,11 @@
 //! The messages of the device under their lock, with their journal.
 ghost use Rattle.std.specs.Prelude.{◌≡◌, ◌≢◌, ◌≤◌, ◌<◌, ◌-◌, ◌^◌, ◌++◌, ◌∷◌, [], List, reverse, length, IfOk, OnErr};
 ghost use mathlib.Core.List.{IsPrefix};
-ghost use Rattle.vd_model.specs.Messages.{MessageAct, Start};
+ghost use Rattle.vd_model.specs.Messages.{MessageAct, MessageStart};
 ghost use Rattle.vd_msg.specs.Stands.{Stands, Makes};
 ghost use Rattle.sh_parts.specs.declared.entry.JournalKind.TheVariants as kind;
 ghost use Rattle.sh_parts.specs.declared.entry.Entry.TheVariants as entry;
-ghost use Rattle.sh_parts.specs.Legal.{call_of, message_acts, message_answer, now_of, start_of, NoneLater, IsMoment, IsLegal};
+ghost use Rattle.sh_parts.specs.Legal.{call_of, acts_of_entries, message_answer, now_of, message_start, NoneLater, IsMoment, IsLegal};
 ghost use Rattle.sh_parts.specs.Steps.{IsFront};
 ghost use Rattle.sh_parts.specs.Journals.{StateView, NoteView, NewMessagesView};
 
@@ -27,10 +27,10 @@ pub struct MessageState<N: Naming> {
 }
 
 impl<N: Naming> Model for MessageState<N> {
-    ghost use Rattle.std.specs.Prelude.{◌≡◌, reverse};
+    ghost use Rattle.std.specs.Prelude.{◌≡◌, ◌≤◌, ◌^◌, reverse};
     ghost use Rattle.vd_msg.specs.Stands.{Stands};
     ghost use Rattle.sh_parts.specs.declared.entry.JournalKind.TheVariants.{Messages};
-    ghost use Rattle.sh_parts.specs.Legal.{message_acts, now_of, start_of};
+    ghost use Rattle.sh_parts.specs.Legal.{acts_of_entries, now_of, message_start};
     ghost use Rattle.sh_parts.specs.Journals.{StateView};
 
     ghost Value = { StateView };
@@ -38,8 +38,9 @@ impl<N: Naming> Model for MessageState<N> {
     ghost view = { λ s. record { entries = s.journal.entries; noted = s.journal.noted } };
 
     ghost invariant = { λ s. (s.journal.kind ≡ Messages)
-        × Stands (start_of N.numbers) (message_acts N.numbers (reverse s.journal.entries)) s.messages
-        × (s.time ≡ now_of (reverse s.journal.entries)) };
+        × Stands (message_start N.numbers) (acts_of_entries N.numbers (reverse s.journal.entries)) s.messages
+        × (s.time ≡ now_of (reverse s.journal.entries))
+        × (s.time ≤ 2 ^ 40) };
 }
 
 /// The state of the messages under its lock, and what a thread that waits for one sleeps on.
@@ -50,7 +51,7 @@ pub struct SharedMessages<N: Naming> {
 }
 
 /// The messages of a device that has no name yet, with an empty journal. In contracts they are their
-/// journal's table and their timeout.
+/// journal's table and entries, and their timeout.
 #[derive(Drop)]
 pub struct NewMessages {
     journal: NewJournal,
@@ -66,7 +67,7 @@ impl Model for NewMessages {
 
     ghost Value = { NewMessagesView };
 
-    ghost view = { λ m. record { table = m.journal.seat.table_id; timeout = m.timeout } };
+    ghost view = { λ m. record { table = m.journal.seat.table_id; entries = m.journal.entries.items; timeout = m.timeout } };
 
     ghost invariant = { λ m. (m.journal.kind ≡ Messages) × Stands (record { timeout = m.timeout; first = 0 }) [] m.messages };
 }
@@ -75,7 +76,8 @@ impl SharedMessages<Brand> {
     /// No messages. Each that is sent has this timeout, in seconds and 0 for none, and the first one
     /// has the id 0. They get their name by `named`.
     pub fn new(alloc: Global, timeout: u32) -> Result<NewMessages, AllocError>
-        ensures { IfOk result (λ m. m.timeout ≡ timeout) }
+        ensures empty { IfOk result (λ m. m.entries ≡ []) }
+        ensures timeout { IfOk result (λ m. m.timeout ≡ timeout) }
     {
         Ok(NewMessages {
             journal: NewJournal::new(alloc, JournalKind::Messages)?,
@@ -90,7 +92,8 @@ impl NewMessages {
     pub fn into_state<N: Naming>(self) -> MessageState<N>
         requires table { self.table ≡ N.messages }
         requires numbers { self.timeout ≡ N.numbers.timeout }
-        ensures { (result.entries ≡ []) × (result.noted ≡ 0) }
+        ensures same { result.entries ≡ self.entries }
+        ensures empty { (result.entries ≡ []) × (result.noted ≡ 0) }
     {
         let NewMessages {
             journal,
@@ -123,7 +126,7 @@ impl<N: Naming> MessageState<N> {
         requires small { now ≤ 2 ^ 40 }
         requires moment { IsMoment (reverse self.old.entries) step now }
 
-        ensures answer { IfOk result (λ answer. answer ≡ message_answer (start_of N.numbers) (message_acts N.numbers (reverse self.old.entries)) step) }
+        ensures answer { IfOk result (λ answer. answer ≡ message_answer (message_start N.numbers) (acts_of_entries N.numbers (reverse self.old.entries)) step) }
         ensures entry { IfOk result (λ answer. self.new ≡ record self.old { entries = self.old.entries ++ entry.Message step now answer ∷ [] }) }
         ensures unnoted { IfOk result (λ _. self.new.noted < length self.new.entries) }
         ensures err { OnErr result (self.new ≡ self.old) }
@@ -152,6 +155,7 @@ impl<N: Naming> MessageState<N> {
     pub fn now(&self) -> u64
         ensures last { result ≡ now_of (reverse self.now.entries) }
         ensures greatest { NoneLater result (reverse self.now.entries) }
+        ensures small { result ≤ 2 ^ 40 }
     {
         self.journal.legal();
         self.time
@@ -194,9 +198,9 @@ fn answer_to(
     step: MessageStep,
     now: u64,
 ) -> Result<MessageAnswer, AllocError>
-    ensures answer { (start : Start) (done : List MessageAct) → Stands start done messages.old →
+    ensures answer { (start : MessageStart) (done : List MessageAct) → Stands start done messages.old →
         IfOk result (λ answer. answer ≡ message_answer start done step) }
-    ensures acts { (start : Start) (done : List MessageAct) → Stands start done messages.old →
+    ensures acts { (start : MessageStart) (done : List MessageAct) → Stands start done messages.old →
         IfOk result (λ _. Makes start done (call_of step now) messages.new) }
     ensures err { OnErr result (messages.new ≡ messages.old) }
 {

@@ -1,5 +1,5 @@
 //! Worked examples of both journals, and journals met by two threads.
-ghost use Rattle.std.specs.Prelude.{◌≡◌, ◌≢◌, ◌≤◌, IfOk};
+ghost use Rattle.std.specs.Prelude.{◌≡◌, ◌≢◌, ◌≤◌, ◌^◌, IfOk};
 ghost use Rattle.sh_parts.specs.declared.entry.MessageStep.TheVariants as asks;
 ghost use Rattle.sh_parts.specs.declared.entry.JournalKind.TheVariants as kind;
 
@@ -158,17 +158,13 @@ fn apply_now<N: Naming>(
     requires { step ≢ asks.Tick }
 {
     let now = state.now();
-    if now > 1 << 40 {
-        return Err("the time is too great".into());
-    }
     Ok(state.apply(step, now)?)
 }
 
-fn tick<N: Naming>(state: &mut MessageState<N>, now: u64) -> Result<MessageAnswer, Fail> {
+fn tick<N: Naming>(state: &mut MessageState<N>, now: u64) -> Result<MessageAnswer, Fail>
+    requires { now ≤ 2 ^ 40 }
+{
     let moment = now.max(state.now());
-    if moment > 1 << 40 {
-        return Err("the time is too great".into());
-    }
     Ok(state.apply(MessageStep::Tick, moment)?)
 }
 

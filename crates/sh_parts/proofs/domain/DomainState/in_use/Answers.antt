@@ -8,4 +8,4 @@ pub returns : goal.returns
 returns g c =
     let i = c.self.invariant in
     c.in_use.ensures g.N.Naming.numbers _ i.2
-    ∙ ap (λ (v : StateView). acts.in_use 1 (domain_acts g.N.Naming.numbers (reverse v.entries)) c.args.page) c.self.view_is
+    ∙ ap (λ (v : StateView). acts.is_in_use 1 (domain_acts g.N.Naming.numbers (reverse v.entries)) c.args.page) c.self.view_is

@@ -11,5 +11,5 @@ invariant_of-result c =
       c.in_ok-new-2.ensures.next,
     )
 
-pub returns : goal.returns
-returns c = let s = c.in_ok-new-2.ensures.stands 0 in (s.bounce, s.pages)
+pub returns-clause-numbers : goal.returns-clause-numbers
+returns-clause-numbers c = let s = c.in_ok-new-2.ensures.stands 0 in (s.bounce, s.pages)

@@ -7,7 +7,7 @@ use Rattle.vd_model.specs.Live.{live_regions}
 use Rattle.sh_parts.specs.declared.entry.DomainAnswer.TheVariants.{Done, Err}
 use Rattle.sh_parts.specs.declared.memory.Live.{Live}
 use Rattle.sh_parts.specs.declared.memory.Memory.{Memory}
-use Rattle.sh_parts.specs.Legal.{DomainTurn, done_by, refused}
+use Rattle.sh_parts.specs.Legal.{DomainTurn, done_by, domain_refusal}
 use Rattle.sh_parts.specs.Memory.{Stands, IsKept, kept_region}
 use Rattle.sh_parts.proofs.Kept.{finds}
 use Rattle.sh_parts.proofs.Turns.{same_drop, kept_drop, found_taken, none_among, some_among, lacking, by_turn}
@@ -18,12 +18,12 @@ kept_end {n} {lo} {hi} {top} {ks} {s} e = subst (λ k. IsKept n lo k ks s) (sym 
 
 -- the turn, by what is found
 abbrev turn : Option Coherent → DomainTurn
-turn found = option_map_or (λ m. done_by (Driver (Region_freed m))) found (refused Noent)
+turn found = option_map_or (λ m. done_by (Driver (Region_freed m))) found (domain_refusal Noent)
 
 pub returns-in_default-clause-makes : goal.returns-in_default-clause-makes
 returns-in_default-clause-makes c = λ x done s.
     let none = none_among kept_region c.args.number (live_regions done) c.args.self.now.areas.items s.areas (sym c.find_live.ensures ∙ c.in_default.is) in
-    by_turn x done (turn (find (λ m. m.number == c.args.number) (live_regions done))) (refused Noent) (Err Noent) c.args.self.now (ap turn none) refl s
+    by_turn x done (turn (find (λ m. m.number == c.args.number) (live_regions done))) (domain_refusal Noent) (Err Noent) c.args.self.now (ap turn none) refl s
 
 pub give-requires : goal.give-requires
 give-requires c = found_taken _ _ _ c.args.number _ _ _ c.requires.sound.areas (sym c.find_live.ensures ∙ c.in-Some.is)

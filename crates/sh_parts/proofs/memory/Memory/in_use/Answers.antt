@@ -1,7 +1,7 @@
 use Rattle.std.proofs.Common.{◌≡◌, ℕ, Bool, ◌+◌, ◌-◌, ◌*◌, ◌&&◌, nat_le, nat_lt, arith, ap, ◌∙◌}
 use Rattle.std.proofs.lemmas.Bool.Decides.{nat_tests}
 use Rattle.std.specs.List.{list_any}
-use Rattle.vd_model.specs.Live.{live}
+use Rattle.vd_model.specs.Live.{live_mappings}
 use Rattle.sh_parts.specs.declared.memory.Live.{Live}
 use Rattle.sh_parts.specs.Memory.{kept_mapping}
 use Rattle.sh_parts.proofs.Places.{any_map, any_same}
@@ -22,4 +22,4 @@ returns c = λ x done s.
     let test : ℕ → Live → Bool = meets in
     c.covers.ensures ∙ any_same (covers c.from.result) (test c.from.result) c.args.self.now.mappings.items (same c.from.result)
     ∙ ap (λ p. list_any (test p) c.args.self.now.mappings.items) c.from.ensures
-    ∙ ap (list_any (test c.args.page)) s.mappings ∙ any_map (test c.args.page) kept_mapping (live done)
+    ∙ ap (list_any (test c.args.page)) s.mappings ∙ any_map (test c.args.page) kept_mapping (live_mappings done)

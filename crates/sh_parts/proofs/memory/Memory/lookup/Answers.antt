@@ -4,14 +4,14 @@ use Rattle.std.specs.Option.{option_map_or}
 use Rattle.vd_num.specs.declared.errno.Errno.TheVariants.{Inval}
 use Rattle.vd_model.specs.declared.memory.Region.{Region}
 use Rattle.sh_parts.specs.declared.entry.DomainAnswer.{DomainAnswer}
-use Rattle.sh_parts.specs.Legal.{refused, found}
+use Rattle.sh_parts.specs.Legal.{domain_refusal, domain_found}
 use Rattle.sh_parts.proofs.Turns.{lookup_first}
 use Rattle.sh_parts.proofs.memory.Memory.lookup.Goals.{else-self-via-then-self+else-range-self, else-self-via-else-self}
 use Rattle.sh_parts.proofs.memory.Memory.lookup.Goals as goal
 
 -- the answer, by whether the range is empty and by what is found
 abbrev answer : Bool × Option Region → DomainAnswer
-answer y = (if y.0 then refused Inval else option_map_or found y.1 (refused Inval)).answer
+answer y = (if y.0 then domain_refusal Inval else option_map_or domain_found y.1 (domain_refusal Inval)).answer
 
 in_order : (start last : ℕ) → start ≤ last → nat_lt last start ≡ false
 in_order start last le = grind (arith, nat_tests)

@@ -3,15 +3,15 @@ use Rattle.std.specs.Option.{option_map_or}
 use Rattle.vd_num.specs.Number.{pages_of}
 use Rattle.vd_num.specs.declared.errno.Errno.TheVariants.{Inval, Nospc}
 use Rattle.vd_iova.specs.Space.{Space}
-use Rattle.vd_regions.specs.Ordered.{placed}
+use Rattle.vd_regions.specs.Ordered.{with_region}
 use Rattle.vd_model.specs.Acts.{Act}
 use Rattle.vd_model.specs.Live.{maps, regions, live_regions}
-use Rattle.vd_model.specs.Place.{place_of, taken}
+use Rattle.vd_model.specs.Place.{place_of, taken_slots}
 use Rattle.sh_parts.specs.declared.entry.DomainAnswer.TheVariants.{Mapped, Err}
 use Rattle.vd_model.specs.declared.memory.Region.{Region}
 use Rattle.sh_parts.specs.declared.memory.Live.{Live}
 use Rattle.sh_parts.specs.declared.memory.Memory.{Memory}
-use Rattle.sh_parts.specs.Legal.{DomainTurn, region_at, next_number, refused}
+use Rattle.sh_parts.specs.Legal.{DomainTurn, region_at, next_number, domain_refusal}
 use Rattle.sh_parts.specs.Memory.{range_of, IsKept, HaveSame, Stands, kept_region}
 use Rattle.sh_parts.proofs.Kept.{differs}
 use Rattle.sh_parts.proofs.Turns.{kept_later, kept_push, coherent_place, adding, by_turn, kept_back, same_push, told_ok, told_err}
@@ -19,7 +19,7 @@ use Rattle.sh_parts.proofs.memory.Memory.make_region.Goals as goal
 
 -- the turn, by whether the length is 0 and by the place
 abbrev turn : List Act → ℕ → Bool × Option ℕ → DomainTurn
-turn done len y = if y.0 then refused Inval else option_map_or (region_at done len) y.1 (refused Nospc)
+turn done len y = if y.0 then domain_refusal Inval else option_map_or (region_at done len) y.1 (domain_refusal Nospc)
 
 -- an address space that ends at the same page
 moved : {n lo hi top : ℕ} {ks ls : List Live} {s : Space} → ls ≡ ks → top ≡ hi → IsKept n lo hi ks s → IsKept n lo top ls s
@@ -63,8 +63,8 @@ returns-in_default-clause-makes c = λ x done s.
       mapped = c.args.self.now.mapped;
       registered = c.args.self.now.registered;
     } in
-    let place : None ≡ place_of (taken done) (pages_of c.args.len) x.bounce x.pages =
-    c.in_default.ensures.place ∙ coherent_place x done c.args.self.now c.requires.sound s c.pages-count.result ∙ ap (λ n. place_of (taken done) n x.bounce x.pages) c.pages-count.ensures.value in
+    let place : None ≡ place_of (taken_slots done) (pages_of c.args.len) x.bounce x.pages =
+    c.in_default.ensures.place ∙ coherent_place x done c.args.self.now c.requires.sound s c.pages-count.result ∙ ap (λ n. place_of (taken_slots done) n x.bounce x.pages) c.pages-count.ensures.value in
     let zero : (c.args.len == 0) ≡ false = differs c.args.len 0 c.if-len-eq0.false in
     let same : Stands x done m = record {
       bounce = s.bounce;
@@ -75,7 +75,7 @@ returns-in_default-clause-makes c = λ x done s.
       mappings = s.mappings;
       areas = c.reserve.ensures.items ∙ s.areas;
     } in
-    by_turn x done (turn done c.args.len (c.args.len == 0, place_of (taken done) (pages_of c.args.len) x.bounce x.pages)) (refused Nospc) (Err Nospc) m
+    by_turn x done (turn done c.args.len (c.args.len == 0, place_of (taken_slots done) (pages_of c.args.len) x.bounce x.pages)) (domain_refusal Nospc) (Err Nospc) m
     (ap (turn done c.args.len) (λ i. (zero i, sym place i))) refl same
 
 pub returns-then-is_err-clause-sound : goal.returns-then-is_err-clause-sound
@@ -109,7 +109,7 @@ returns-clause-sound c =
     let k : Live = record { number = c.args.self.now.next; page = c.in-Ok.page; count = c.pages-count.result } in
     let more : c.push_reserved.new.self.items ≡ c.args.self.now.areas.items ++ k ∷ [] = c.push_reserved.ensures.items ∙ ap (λ l. l ++ k ∷ []) c.reserve.ensures.items in
     let end : c.take.new.self.«end» ≡ c.args.self.now.coherent.«end» = ap (λ (t : Space). t.«end») c.in-Ok.ensures.ok in
-    let with : c.add.new.self ≡ placed c.region_of.result c.args.self.now.regions = told_ok c.add.result _ (sym c.is_err.ensures.value ∙ c.if-is_err.false) c.add.ensures.ok in
+    let with : c.add.new.self ≡ with_region c.region_of.result c.args.self.now.regions = told_ok c.add.result _ (sym c.is_err.ensures.value ∙ c.if-is_err.false) c.add.ensures.ok in
     record {
       some = s.some;
       more = subst (λ n. c.args.self.now.bounce_pages < n) (sym end) s.more;
@@ -118,7 +118,7 @@ returns-clause-sound c =
       areas = moved refl end (kept_push c.args.self.now.next c.args.self.now.bounce_pages c.args.self.now.coherent.«end» c.args.self.now.areas.items c.push_reserved.new.self.items c.args.self.now.coherent c.take.new.self k
           more s.areas refl some low within.1 c.in-Ok.ensures.fresh
           (ap (λ (t : Space). t.first) c.in-Ok.ensures.ok) end c.in-Ok.ensures.taken);
-      regions = same_push c.args.self.now.regions c.add.new.self c.args.self.now.areas.items c.push_reserved.new.self.items k s.regions (with ∙ ap (λ r. placed r c.args.self.now.regions) c.region_of.ensures) more;
+      regions = same_push c.args.self.now.regions c.add.new.self c.args.self.now.areas.items c.push_reserved.new.self.items k s.regions (with ∙ ap (λ r. with_region r c.args.self.now.regions) c.region_of.ensures) more;
     }
 
 pub returns-clause-makes : goal.returns-clause-makes
@@ -135,8 +135,8 @@ returns-clause-makes c = λ x done s.
       mapped = c.args.self.now.mapped;
       registered = c.args.self.now.registered;
     } in
-    let place : Some c.in-Ok.page ≡ place_of (taken done) (pages_of c.args.len) x.bounce x.pages =
-    c.in-Ok.ensures.place ∙ coherent_place x done c.args.self.now c.requires.sound s c.pages-count.result ∙ ap (λ n. place_of (taken done) n x.bounce x.pages) c.pages-count.ensures.value in
+    let place : Some c.in-Ok.page ≡ place_of (taken_slots done) (pages_of c.args.len) x.bounce x.pages =
+    c.in-Ok.ensures.place ∙ coherent_place x done c.args.self.now c.requires.sound s c.pages-count.result ∙ ap (λ n. place_of (taken_slots done) n x.bounce x.pages) c.pages-count.ensures.value in
     let zero : (c.args.len == 0) ≡ false = differs c.args.len 0 c.if-len-eq0.false in
     let next = s.next in
     let later : c.args.self.now.next + 1 ≡ maps done + (regions done + 1) = omega arith in
@@ -152,5 +152,5 @@ returns-clause-makes c = λ x done s.
           (record { number = next_number done; slot = c.in-Ok.page; len = c.args.len })
           s.areas (λ i. record { number = s.next i; page = c.in-Ok.page; count = c.pages-count.ensures.value i });
     } in
-    by_turn x done (turn done c.args.len (c.args.len == 0, place_of (taken done) (pages_of c.args.len) x.bounce x.pages)) (region_at done c.args.len c.in-Ok.page) (Mapped c.args.self.now.next (4096 * c.in-Ok.page)) m
+    by_turn x done (turn done c.args.len (c.args.len == 0, place_of (taken_slots done) (pages_of c.args.len) x.bounce x.pages)) (region_at done c.args.len c.in-Ok.page) (Mapped c.args.self.now.next (4096 * c.in-Ok.page)) m
     (ap (turn done c.args.len) (λ i. (zero i, sym place i))) (ap (λ n. Mapped n (4096 * c.in-Ok.page)) s.next) made

@@ -3,22 +3,22 @@ use Rattle.std.specs.Option.{option_map_or}
 use Rattle.vd_num.specs.declared.errno.Errno.TheVariants.{Noent}
 use Rattle.vd_iova.specs.Space.{Space}
 use Rattle.vd_model.specs.Acts.{Streaming, Driver, Unmapped}
-use Rattle.vd_model.specs.Live.{live}
+use Rattle.vd_model.specs.Live.{live_mappings}
 use Rattle.sh_parts.specs.declared.entry.DomainAnswer.TheVariants.{Done, Err}
 use Rattle.sh_parts.specs.declared.memory.Memory.{Memory}
-use Rattle.sh_parts.specs.Legal.{DomainTurn, done_by, refused}
+use Rattle.sh_parts.specs.Legal.{DomainTurn, done_by, domain_refusal}
 use Rattle.sh_parts.specs.Memory.{Stands, kept_mapping}
 use Rattle.sh_parts.proofs.Turns.{kept_drop, found_taken, none_among, some_among, lacking, by_turn}
 use Rattle.sh_parts.proofs.memory.Memory.unmap.Goals as goal
 
 -- the turn, by what is found
 abbrev turn : Option Streaming → DomainTurn
-turn found = option_map_or (λ m. done_by (Driver (Unmapped m))) found (refused Noent)
+turn found = option_map_or (λ m. done_by (Driver (Unmapped m))) found (domain_refusal Noent)
 
 pub returns-in_default-clause-makes : goal.returns-in_default-clause-makes
 returns-in_default-clause-makes c = λ x done s.
-    let none = none_among kept_mapping c.args.number (live done) c.args.self.now.mappings.items s.mappings (sym c.find_live.ensures ∙ c.in_default.is) in
-    by_turn x done (turn (find (λ m. m.number == c.args.number) (live done))) (refused Noent) (Err Noent) c.args.self.now (ap turn none) refl s
+    let none = none_among kept_mapping c.args.number (live_mappings done) c.args.self.now.mappings.items s.mappings (sym c.find_live.ensures ∙ c.in_default.is) in
+    by_turn x done (turn (find (λ m. m.number == c.args.number) (live_mappings done))) (domain_refusal Noent) (Err Noent) c.args.self.now (ap turn none) refl s
 
 pub give-requires : goal.give-requires
 give-requires c = found_taken _ _ _ c.args.number _ _ _ c.requires.sound.mappings (sym c.find_live.ensures ∙ c.in-Some.is)
@@ -49,14 +49,14 @@ returns-clause-makes c = λ x done s.
       mapped = c.args.self.now.mapped;
       registered = c.args.self.now.registered;
     } in
-    let among = some_among kept_mapping c.args.number (live done) c.args.self.now.mappings.items _ s.mappings (sym c.find_live.ensures ∙ c.in-Some.is) in
+    let among = some_among kept_mapping c.args.number (live_mappings done) c.args.self.now.mappings.items _ s.mappings (sym c.find_live.ensures ∙ c.in-Some.is) in
     let made : Stands x (Driver (Unmapped among.one) ∷ done) m = record {
       bounce = s.bounce;
       pages = s.pages;
       next = s.next;
       mapped = s.mapped;
       registered = s.registered;
-      mappings = c.drop_live.ensures ∙ lacking kept_mapping c.args.number (live done) c.args.self.now.mappings.items among.one.number s.mappings among.number;
+      mappings = c.drop_live.ensures ∙ lacking kept_mapping c.args.number (live_mappings done) c.args.self.now.mappings.items among.one.number s.mappings among.number;
       areas = s.areas;
     } in
-    by_turn x done (turn (find (λ m. m.number == c.args.number) (live done))) (done_by (Driver (Unmapped among.one))) Done m (ap turn among.found) refl made
+    by_turn x done (turn (find (λ m. m.number == c.args.number) (live_mappings done))) (done_by (Driver (Unmapped among.one))) Done m (ap turn among.found) refl made

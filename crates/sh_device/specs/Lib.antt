@@ -1,0 +1,4 @@
+pub mod Spans
+pub mod Calls
+pub mod Refused
+pub mod Sending
