@@ -195,7 +195,7 @@ mod tests {
             let mut pool = Pool::new(rt.alloc(), per_page);
             pool.reserve(1)?;
             assert_eq!(rt; pool.spare(), 1);
-            let last = SLOT * per_page as usize - 2;
+            let last = SLOT_SIZE as usize * per_page as usize - 2;
             let mut bytes = [0; 4];
             let frame = pool.take();
             pool.write(&frame, 0, b"ab");
