@@ -6,8 +6,8 @@ use Rattle.std.proofs.lemmas.List.Folds.{list_all-append}
 use Rattle.std.proofs.lemmas.Bool.Decides.{nat_tests, eqb_tells}
 use Rattle.vd_model.specs.Setting.{Setting}
 use Rattle.vd_model.specs.History.{History}
-use Rattle.vd_model.specs.Served.{served_reading}
-use Rattle.vd_model.specs.Out.{is_good, good_lines, script_lines, stop_of, history_after, output_from, script_output, At_the_end, Not_in_grammar, Too_long}
+use Rattle.vd_output.specs.Served.{served_reading}
+use Rattle.vd_output.specs.Out.{is_good, good_lines, script_lines, stop_of, history_after, output_from, script_output, At_the_end, Not_in_grammar, Too_long}
 use Rattle.vd_lines.specs.Ahead.{Ahead}
 use Rattle.vd_lines.specs.IsAt.{IsAt, IsRead, IsTaken, StopsLong}
 use Rattle.vd_lines.proofs.Places.{script_from}

@@ -16,7 +16,7 @@ use Rattle.vd_model.specs.Turn.{refuse, refusal_if, lift}
 use Rattle.vd_model.specs.AreaTurns.{area_turn}
 use Rattle.vd_model.specs.DriverTurns.{driver_turn}
 use Rattle.vd_model.specs.History.{is_kept, dev_turn}
-use Rattle.vd_model.specs.Served.{driver_served}
+use Rattle.vd_output.specs.Served.{driver_served}
 use Rattle.vd_engine.specs.Held.{Held}
 use Rattle.vd_engine.specs.Stands.{Stands, Takes, plain}
 

@@ -7,8 +7,8 @@ use Rattle.vd_io.specs.Told.{Pushed}
 use Rattle.vd_model.specs.declared.step.Step.{Step}
 use Rattle.vd_model.specs.Setting.{Setting}
 use Rattle.vd_model.specs.History.{History}
-use Rattle.vd_model.specs.Served.{served_reading}
-use Rattle.vd_model.specs.Out.{good_lines, later_of, reply_to, history_after, output_from, script_output}
+use Rattle.vd_output.specs.Served.{served_reading}
+use Rattle.vd_output.specs.Out.{good_lines, later_of, reply_to, history_after, output_from, script_output}
 use Rattle.vd_engine.specs.Written.{Appended, AppendedFront, replies, IsCut, AppendedCut, AppendedLines}
 use Rattle.vd_engine.specs.Replies.{Replies, IsReplyAdded, Cut, Flushed, line_at}
 use Rattle.vd_engine.specs.Played.{IsIn, Waits}

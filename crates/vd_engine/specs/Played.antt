@@ -4,8 +4,8 @@ use Rattle.std.specs.List.{list_all}
 use Rattle.vd_model.specs.declared.step.Step.{Step}
 use Rattle.vd_model.specs.Setting.{Setting}
 use Rattle.vd_model.specs.History.{History}
-use Rattle.vd_model.specs.Served.{served_reading}
-use Rattle.vd_model.specs.Out.{is_good, good_lines, stop_of, At_the_end, Not_in_grammar, Too_long, later_of, reply_to, output_from}
+use Rattle.vd_output.specs.Served.{served_reading}
+use Rattle.vd_output.specs.Out.{is_good, good_lines, stop_of, At_the_end, Not_in_grammar, Too_long, later_of, reply_to, output_from}
 use Rattle.vd_lines.specs.IsAt.{IsTaken}
 use Rattle.vd_engine.specs.declared.script.Line.{Line}
 use Rattle.vd_engine.specs.declared.script.Line.TheVariants.{Bad, Nothing, Asks}

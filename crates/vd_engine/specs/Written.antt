@@ -2,7 +2,7 @@
 use Rattle.std.specs.Prelude.{ℕ, ◌+◌, ◌<◌, ◌≤◌, ◌≡◌, List, ◌++◌, Option, Some, None, length, take, Bool, true, ◌==◌, ◌||◌, ◌&&◌, nat_le, if◌then◌else◌, []}
 use Rattle.std.specs.List.{list_all}
 use Rattle.vd_model.specs.Setting.{Setting}
-use Rattle.vd_model.specs.Out.{is_good, good_lines, stop_of, At_the_end, Not_in_grammar, Too_long, output_from, script_output}
+use Rattle.vd_output.specs.Out.{is_good, good_lines, stop_of, At_the_end, Not_in_grammar, Too_long, output_from, script_output}
 use Rattle.vd_lines.specs.IsAt.{IsTaken}
 use Rattle.vd_engine.specs.declared.script.Stop.{Stop}
 use Rattle.vd_engine.specs.declared.script.Stop.TheVariants.{End, SourceFailed, SinkFailed, Memory, BadLine, TooLong}

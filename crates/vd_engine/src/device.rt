@@ -13,7 +13,7 @@ ghost use Rattle.vd_model.specs.History.{dev_turn};
 ghost use Rattle.vd_engine.specs.Pages.{IsRange};
 ghost use Rattle.vd_engine.specs.Back.{GivenBack};
 ghost use Rattle.vd_engine.specs.Held.{IsLive};
-ghost use Rattle.vd_model.specs.Served.{area_served, driver_served, device_served};
+ghost use Rattle.vd_output.specs.Served.{area_served, driver_served, device_served};
 ghost use Rattle.vd_engine.specs.Frugal.{area_takes_none, driver_takes_none, takes_none};
 
 use crate::bounce::Bounce;

@@ -5,7 +5,7 @@ ghost use Rattle.vd_model.specs.Setting.{Setting};
 ghost use Rattle.vd_model.specs.Deeds.{Deed, device_view};
 ghost use Rattle.vd_model.specs.ControlTurns.{dev_outcome};
 ghost use Rattle.vd_model.specs.History.{History, device_turn, outcome, device_outcome, reply};
-ghost use Rattle.vd_model.specs.Served.{served, device_served};
+ghost use Rattle.vd_output.specs.Served.{served, device_served};
 ghost use Rattle.vd_engine.specs.Frugal.{takes_none, step_takes_none};
 ghost use Rattle.vd_engine.specs.Stands.{plain};
 ghost use Rattle.vd_engine.specs.Machine.{NoneIs, FirstIs, AllStand, Results};

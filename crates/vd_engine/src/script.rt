@@ -4,7 +4,7 @@ ghost use Rattle.std.specs.Prelude.{◌≡◌, ◌<◌, ◌≤◌, ◌^◌, ◌+
 ghost use Rattle.vd_io.specs.Told.{Rose};
 ghost use Rattle.vd_model.specs.Setting.{Setting};
 ghost use Rattle.vd_model.specs.History.{History};
-ghost use Rattle.vd_model.specs.Served.{served_reading};
+ghost use Rattle.vd_output.specs.Served.{served_reading};
 ghost use Rattle.vd_model.specs.Replies.{reply_line};
 ghost use Rattle.vd_engine.specs.Machine.{StandsFor};
 ghost use Rattle.vd_engine.specs.Stands.{plain};

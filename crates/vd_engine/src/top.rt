@@ -3,9 +3,9 @@
 ghost use Rattle.std.specs.Prelude.{◌≡◌, ◌⊎◌, ◌++◌, ℕ, List, [], IfOk, OnOk, Some, None, map, take, string_bytes, true, false};
 ghost use Rattle.vd_io.specs.Told.{Rose};
 ghost use Rattle.vd_model.specs.Setting.{Setting};
-ghost use Rattle.vd_model.specs.Served.{served_reading};
+ghost use Rattle.vd_output.specs.Served.{served_reading};
 ghost use Rattle.vd_model.specs.Replies.{reply_line};
-ghost use Rattle.vd_model.specs.Out.{stop_of, At_the_end, good_lines, history_after};
+ghost use Rattle.vd_output.specs.Out.{stop_of, At_the_end, good_lines, history_after};
 ghost use Rattle.vd_laws.specs.Runs.{IsAddressed, IsWhole};
 ghost use Rattle.vd_laws.specs.Laws.{Laws};
 ghost use Rattle.vd_disk_laws.specs.RingLaws.{RingLaws};
@@ -17,8 +17,9 @@ ghost use Rattle.vd_engine.specs.Played.{Says};
 use crate::script::{Exit, Language, Line, run, usage};
 use std::alloc::{AllocError, Global};
 use vd_io::{Image, Sink, Source};
-use vd_model::{Answer, Bytes, served};
+use vd_model::{Answer, Bytes};
 use vd_options::read_words;
+use vd_output::served;
 use vd_script::LineError;
 
 /// The grammar of scripts, of which the served line forms are read.

@@ -4,7 +4,7 @@ use Rattle.std.proofs.Math.Seq.{take-append-add, drop-append_seam}
 use Rattle.std.specs.List.{list_all}
 use Rattle.std.proofs.lemmas.Bool.Decides.{nat_tests}
 use Rattle.vd_model.specs.Reading.{lines}
-use Rattle.vd_model.specs.Out.{ended_lines, script_lines}
+use Rattle.vd_output.specs.Out.{ended_lines, script_lines}
 use Rattle.vd_lines.specs.declared.reader.ReadFault.{ReadFault}
 use Rattle.vd_lines.specs.declared.reader.ReadFault.TheVariants.{Failed, TooLong, Memory}
 use Rattle.vd_lines.specs.Ahead.{Ahead, IsOneLine, IsFilledBy, IsFilled, IsPast}

@@ -4,7 +4,7 @@ use Rattle.std.specs.List.{list_all, take_while}
 use Rattle.std.proofs.lemmas.List.Sums.{take_while-cons}
 use Rattle.std.proofs.lemmas.Bool.Decides.{nat_tests}
 use Rattle.vd_model.specs.Reading.{lines}
-use Rattle.vd_model.specs.Out.{At_the_end, Not_in_grammar, Too_long, ended_lines, script_lines, is_good, good_lines, stop_at, stop_of}
+use Rattle.vd_output.specs.Out.{At_the_end, Not_in_grammar, Too_long, ended_lines, script_lines, is_good, good_lines, stop_at, stop_of}
 
 -- ---- the lines of a script
 

@@ -2,7 +2,7 @@
 use Rattle.std.proofs.Common.{◌≡◌, ◌≢◌, ℕ, suc, ◌<◌, ◌≤◌, false, refl, ap, subst, ◌∙◌, sym, arith, ◌⊎◌, inl, inr, cond, List, [], ◌∷◌, ◌++◌, ◌==◌, length, append_assoc}
 use Rattle.std.proofs.lemmas.Bool.Decides.{nat_tests}
 use Rattle.vd_model.specs.Reading.{lines, onto_first}
-use Rattle.vd_model.specs.Out.{ended_lines, onto_first_line}
+use Rattle.vd_output.specs.Out.{ended_lines, onto_first_line}
 use Rattle.vd_lines.specs.Ahead.{IsOneLine}
 use Rattle.vd_lines.specs.IsAt.{Cuts}
 

@@ -2,7 +2,7 @@
 use Rattle.std.specs.Prelude.{ℕ, ◌+◌, ◌≤◌, ◌≡◌, List, [], ◌∷◌, ◌++◌, length, drop, nat_le, Bool, true, Option, Some, Result, Ok, Err}
 use Rattle.std.specs.List.{list_all}
 use Rattle.vd_model.specs.Reading.{lines}
-use Rattle.vd_model.specs.Out.{ended_lines, script_lines, is_good, good_lines, stop_of, Too_long, text_limit, line_limit}
+use Rattle.vd_output.specs.Out.{ended_lines, script_lines, is_good, good_lines, stop_of, Too_long, text_limit, line_limit}
 use Rattle.vd_lines.specs.declared.reader.Next.{Next}
 use Rattle.vd_lines.specs.declared.reader.Next.TheVariants.{Line, Last, End}
 use Rattle.vd_lines.specs.declared.reader.ReadFault.{ReadFault}

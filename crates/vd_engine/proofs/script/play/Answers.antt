@@ -2,7 +2,7 @@ use Rattle.std.proofs.Common.{◌≤◌, ◌+◌, ◌++◌, ◌∷◌, [], Ok, E
 use Rattle.vd_lines.specs.Ahead.{Ahead}
 use Rattle.vd_lines.specs.IsAt.{IsNext, IsRead}
 use Rattle.vd_lines.proofs.Places.{at_first}
-use Rattle.vd_model.specs.Out.{history_after}
+use Rattle.vd_output.specs.Out.{history_after}
 use Rattle.vd_engine.specs.declared.script.Progress.{Progress}
 use Rattle.vd_engine.specs.Played.{Stopped, Answered, Played, is_own}
 use Rattle.vd_engine.proofs.Plays.{playing_first, playing_more, playing_flushed, stop_end, stop_failed, stop_long, stop_memory, stop_line, stop_last, stop_sink}

@@ -1,6 +1,6 @@
 use Rattle.std.proofs.Common.{◌≡◌, ◌≤◌, ◌∙◌, sym, ap, subst, Some, arith}
 use Rattle.vd_engine.specs.Stands.{plain}
-use Rattle.vd_model.specs.Out.{good_lines, history_after}
+use Rattle.vd_output.specs.Out.{good_lines, history_after}
 use Rattle.std.specs.Prelude.{[], take}
 use Rattle.vd_laws.proofs.AllLaws.{all_laws}
 use Rattle.vd_order_laws.proofs.OrderLaw.{order_law}

@@ -1,6 +1,6 @@
 use Rattle.std.proofs.Common.{subst, sym, ◌≡◌, true}
 use Rattle.vd_model.specs.History.{dev_turn}
-use Rattle.vd_model.specs.Served.{device_served, driver_served}
+use Rattle.vd_output.specs.Served.{device_served, driver_served}
 use Rattle.vd_engine.specs.Stands.{Takes, plain}
 use Rattle.vd_engine.proofs.Turns.{if_ok_more}
 use Rattle.vd_engine.proofs.Served.{area_takes, driver_takes}

@@ -4,7 +4,7 @@ use Rattle.std.specs.List.{list_any, take_while}
 use Rattle.vd_model.specs.declared.step.Step.{Step}
 use Rattle.vd_model.specs.Setting.{Setting}
 use Rattle.vd_model.specs.Reading.{lines}
-use Rattle.vd_model.specs.Served.{served_reading}
+use Rattle.vd_output.specs.Served.{served_reading}
 use Rattle.vd_model.specs.Replies.{reply_line}
 use Rattle.vd_model.specs.History.{History, reply}
 
