@@ -1,8 +1,10 @@
 -- The bytes of a driver's buffer that a mapping hands.
-use Rattle.std.specs.Prelude.{ℕ, List, [], ◌∷◌, ◌≡◌, ◌+◌, ◌-◌, ◌*◌, ◌/◌, Bool, take, drop}
+use Rattle.std.specs.Prelude.{ℕ, List, [], ◌∷◌, ◌≡◌, ◌+◌, ◌-◌, ◌*◌, ◌/◌, Bool, nat_lt, if◌then◌else◌, Option, Some, None, Result, Ok, Err, take, drop}
 use Rattle.std.specs.List.{list_any}
 use Rattle.vd_num.specs.Number.{pages_of}
 use Rattle.vd_num.specs.declared.number.Range.{Range}
+use Rattle.vd_num.specs.declared.errno.Errno.{Errno}
+use Rattle.vd_num.specs.declared.errno.Errno.TheVariants.{Noent, Inval}
 use Rattle.vd_model.specs.declared.memory.Want.{Want}
 use Rattle.vd_model.specs.declared.memory.Mapping.{Mapping}
 use Rattle.vd_model.specs.declared.memory.MapInfo.{MapInfo}
@@ -39,6 +41,11 @@ map_info m = record { iova = 4096 * m.slot; want = m.want }
 -- the addresses of a region
 abbrev pub range_of : Coherent → Range
 range_of r = record { start = 4096 * r.slot; last = 4096 * (r.slot + pages_of r.len) - 1 }
+
+-- the address of some bytes within the slots of a region, or why there is none
+abbrev pub region_place : Option Coherent → ℕ → ℕ → Result ℕ Errno
+region_place None offset len = Err Noent
+region_place (Some r) offset len = if nat_lt (4096 * pages_of r.len) (offset + len) then Err Inval else Ok (4096 * r.slot + offset)
 
 -- the address lies in a live coherent region
 abbrev pub is_coherent : List Act → ℕ → Bool

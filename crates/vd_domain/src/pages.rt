@@ -9,7 +9,6 @@ ghost use Rattle.vd_model.specs.AreaTurns.{first_failing};
 ghost use Rattle.vd_model.specs.Puts.{is_to_device};
 ghost use Rattle.vd_domain.specs.Slots.{meets_slots};
 
-use crate::streaming::hands;
 use vd_bounce::BounceMap;
 use vd_model::Dir;
 use vd_num::SLOT_SIZE;
@@ -74,7 +73,7 @@ pub fn show(map: &mut BounceMap, pool: &mut Pool, pages: Pages, dir: Dir, iova: 
     ensures same { SameShape map.old map.new }
 {
     hold(map, pool, pages);
-    if hands(dir) {
+    if dir.is_to_device() {
         map.put(pool, iova, bytes);
     }
 }

@@ -53,6 +53,13 @@ module _ (x : Setting) (acts : List Act) (k : Memory) (p : Pool) (s : Stands x a
     either true = refl
     either false = refl
 
+  -- what is found, or the refusal, whatever turn is made of a region
+  pub region_found : (start last : ℕ) (r : Result Region Errno)
+      → MatchResult r (λ region. (start ≤ last) × (first_region (daemon_regions x acts) start last ≡ Some region)) (λ e. (e ≡ Inval) × ((last < start) ⊎ (first_region (daemon_regions x acts) start last ≡ None)))
+      → MatchResult r (λ region. (turn : Region → Turn NodeAct) → found_or x acts start last turn ≡ turn region) (λ e. (turn : Region → Turn NodeAct) → found_or x acts start last turn ≡ refusal_turn e)
+  region_found start last (Ok region) h = λ turn. found start last turn region h
+  region_found start last (Err e) h = λ turn. not_found start last turn e h
+
   pub found_line : (start last : ℕ) (turn : Region → Turn NodeAct) (r : Region) → (start ≤ last) × (first_region (daemon_regions x acts) start last ≡ Some r) → (turn r).acts ≡ [] → heard (turn r).answer
       → Tells heard (lift Node (found_or x acts start last turn)) (λ more. Stands x (more ++ acts) k p)
   found_line start last turn r h none t = tells_by (ap (lift Node) (found start last turn r h)) refl t (subst (λ (made : List NodeAct). Stands x (map Node made ++ acts) k p) (sym none) s)

@@ -1,7 +1,10 @@
 pub mod Parts
 pub mod BufferLines
+pub mod Freeing
 pub mod MappingLines
 pub mod Seams
 pub mod AreaLines
 pub mod RegionLines
+pub mod RegionBytes
+pub mod Sessions
 pub mod Held

@@ -19,12 +19,12 @@ use Rattle.vd_model.specs.declared.answer.Answer.TheVariants as answer
 use Rattle.vd_model.specs.declared.answer.Item.TheVariants.{Number, Word, Address}
 use Rattle.vd_model.specs.declared.answer.Tag.TheVariants.{Iova}
 use Rattle.vd_model.specs.Setting.{Setting}
-use Rattle.vd_model.specs.Acts.{Act, Driver, DriverAct, Mapped, Unmapped, Synced_device, Streaming}
+use Rattle.vd_model.specs.Acts.{Act, Driver, DriverAct, Mapped, Unmapped, Synced_device, Synced_cpu, Streaming}
 use Rattle.vd_model.specs.Live.{live_mappings, maps, buffers, buffer_len, buffers_len, registration_of, iova_of}
 use Rattle.vd_model.specs.Puts.{ram, shown_put, last_put, is_from_device, is_to_device, put_or, put_if, home_cell, fetched_put, Ram}
 use Rattle.vd_model.specs.Place.{place_of as slot_of, taken_slots}
 use Rattle.vd_model.specs.Turn.{Turn, lift, refuse, refusal_turn, done_with, range_refusal, refusal_if as given_if}
-use Rattle.vd_model.specs.DriverTurns.{map_turn, map_at, on_mapping, unmap_turn, syncdev_turn}
+use Rattle.vd_model.specs.DriverTurns.{map_turn, map_at, on_mapping, unmap_turn, syncdev_turn, synccpu_turn}
 use Rattle.vd_domain.specs.Held.{Held, mapping_of}
 use Rattle.vd_domain.specs.Handed.{streaming_of, map_info}
 use Rattle.vd_domain.proofs.Holdings.{found_all}
@@ -154,6 +154,23 @@ module _ (x : Setting) (acts : List Act) (k : Memory) (p : Pool) (s : Stands x a
   synced heard m d q e way h stands =
       tells_by (on_is syncdev_turn (Some m) e ∙ ap (λ t. lift Driver (refuse (given_if (not t) Inval) (done_with [] (Synced_device m ∷ [])))) way) refl h
       (domain_act x acts k p s (Driver (Synced_device m)) d q refl refl stands)
+
+  fetch_is : (m : Streaming) (way : Bool) → mapping_of k.domain number ≡ Some m → is_from_device m.want.dir ≡ way
+      → lift Driver (on_mapping acts number synccpu_turn) ≡ lift Driver (refuse (given_if (not way) Inval) (done_with [] (Synced_cpu m ∷ [])))
+  fetch_is m way e f = on_is synccpu_turn (Some m) e ∙ ap (λ t. lift Driver (refuse (given_if (not t) Inval) (done_with [] (Synced_cpu m ∷ [])))) f
+
+  pub wrong_way : (heard : Answer → Type 0) (m : Streaming) → mapping_of k.domain number ≡ Some m → is_from_device m.want.dir ≡ false → heard (answer.Err Inval)
+      → Tells heard (lift Driver (on_mapping acts number synccpu_turn)) (λ more. Stands x (more ++ acts) k p)
+  wrong_way heard m e way h = tells_by (fetch_is m false e way) refl h s
+
+  pub fetched : (heard : Answer → Type 0) (m : Streaming) (d : Held) (places : Places) (q : Pool) → mapping_of k.domain number ≡ Some m → is_from_device m.want.dir ≡ true → heard (answer.Done [])
+      → domain.Stands x (Driver (Synced_cpu m) ∷ acts) d q → buffers.Stands x.per_page (Driver (Synced_cpu m) ∷ acts) places
+      → Tells heard (lift Driver (on_mapping acts number synccpu_turn)) (λ more. Stands x (more ++ acts) (record k { domain = d; buffers = places }) q)
+  fetched heard m d places q e way h memory kept = tells_by (fetch_is m true e way) refl h (record {
+    domain = memory;
+    buffers = kept;
+    inside = stay_inside acts (Driver (Synced_cpu m) ∷ acts) (live_mappings acts) (λ b size e. e) s.inside;
+  })
 
   -- its range isn't refused
   pub mapping_allowed : (m : Streaming) → mapping_of k.domain number ≡ Some m → range_refusal (buffer_len acts m.want.buffer) m.want.offset m.want.len ≡ None

@@ -70,7 +70,7 @@ module _ (x : Setting) (acts : List Act) (k : Memory) (p : Pool) (s : Stands x a
       told_ok result t.0 (tells_by (turn_is len None any full) refl t.1 (stands_as d h.err))
   coherent_line heard len (Err error.Memory) result d t h = told_none result t (stands_as d h.err)
 
-  on_is : (number : ℕ) (turn : Coherent → Turn DriverAct) (o : Option Coherent) → coherent_of k.domain number ≡ o → lift Driver (on_region acts number turn) ≡ lift Driver (option_map_or turn o (refusal_turn Noent))
+  pub on_is : (number : ℕ) (turn : Coherent → Turn DriverAct) (o : Option Coherent) → coherent_of k.domain number ≡ o → lift Driver (on_region acts number turn) ≡ lift Driver (option_map_or turn o (refusal_turn Noent))
   on_is number turn o e = ap (λ o. lift Driver (option_map_or turn o (refusal_turn Noent))) (ap (λ (l : List Coherent). find (λ r. r.number == number) l) (sym s.domain.regions) ∙ e)
 
   pub no_region : (heard : Answer → Type 0) (number : ℕ) (turn : Coherent → Turn DriverAct) (d : Held) → coherent_of k.domain number ≡ None → d ≡ k.domain → heard (answer.Err Noent)

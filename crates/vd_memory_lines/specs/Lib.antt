@@ -1,3 +1,4 @@
+pub mod Frugal
 pub mod Given
 pub mod Mapped
 pub mod Rest

@@ -1,10 +1,10 @@
 //! The daemon's lines on the memory that it sees.
 
-ghost use Rattle.std.specs.Prelude.{◌≡◌, ℕ, List, length};
+ghost use Rattle.std.specs.Prelude.{◌≡◌, ℕ, List, length, MatchResult};
 ghost use Rattle.vd_pool.specs.Memory as pool;
 ghost use Rattle.vd_model.specs.Setting.{Setting};
-ghost use Rattle.vd_model.specs.Acts.{Act, Node};
-ghost use Rattle.vd_model.specs.Turn.{lift};
+ghost use Rattle.vd_model.specs.Acts.{Act, Node, NodeAct};
+ghost use Rattle.vd_model.specs.Turn.{Turn, lift, refusal_turn};
 ghost use Rattle.vd_model.specs.AreaTurns.{load_turn, store_turn, found_or, lookup_turn, iovainfo_turn, capability_of, new_area_turn, areaput_turn, areaget_turn, regumem_turn, deregumem_turn};
 ghost use Rattle.vd_answers.specs.Tells.{Tells, MayTell};
 
@@ -27,8 +27,9 @@ pub struct Extent {
 /// How many bytes an area may have.
 const AREA_LIMIT: u64 = 134_217_728;
 
-/// Whether an area can be registered for a region: for bounce memory alone, which begins at 0.
-fn capability(region: &Region) -> u64
+/// Whether an area can be registered for a region: for bounce memory alone, which begins at 0. The answer is 1 or 0, as
+/// the bits of `capability` in `struct vduse_iova_info` of `linux/vduse.h`.
+pub fn capability(region: &Region) -> u64
     ensures { result ≡ capability_of region.now }
 {
     if region.start == 0 { 1 } else { 0 }
@@ -75,6 +76,15 @@ impl Memory {
                 Ok(())
             }
         }
+    }
+
+    /// The region of least start that overlaps a range, or the refusal.
+    pub fn find_region(&self, range: Range) -> Result<Region, Errno>
+        ensures { (x : Setting) (acts : List Act) (m : pool.PoolMemory) → Stands x acts self.now m → MatchResult result
+            (λ region. (turn : Region → Turn NodeAct) → found_or x acts range.start range.last turn ≡ turn region)
+            (λ errno. (turn : Region → Turn NodeAct) → found_or x acts range.start range.last turn ≡ refusal_turn errno) }
+    {
+        self.domain.lookup(range)
     }
 
     /// Tells the region of least start that overlaps a range.

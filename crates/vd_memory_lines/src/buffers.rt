@@ -49,6 +49,23 @@ impl Memory {
         Ok(())
     }
 
+    /// Frees a buffer that no live mapping is of.
+    pub fn free<T: Hears>(&mut self, buffer: u64, told: &mut T)
+        requires { T.is_ready told.old }
+        ensures line { (x : Setting) (acts : List Act) (m : pool.PoolMemory) → Stands x acts self.old m →
+            Tells (λ said. T.heard told.old said told.new) (lift Driver (free_turn acts buffer)) (After x acts self.new m) }
+        ensures rest { self.new ≡ record self.old { buffers = self.new.buffers } }
+    {
+        if self.buffers.len_of(buffer).is_none() {
+            return told.refused(Errno::Noent);
+        }
+        if self.domain.maps_buffer(buffer) {
+            return told.refused(Errno::Busy);
+        }
+        self.buffers.free(buffer);
+        told.done();
+    }
+
     /// Writes bytes into a buffer.
     pub fn poke<T: Hears>(&mut self, buffer: u64, offset: u64, bytes: &[u8], told: &mut T)
         requires { T.is_ready told.old }

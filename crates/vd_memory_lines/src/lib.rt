@@ -9,8 +9,9 @@ mod buffers;
 mod coherent;
 mod mappings;
 mod memory;
+mod steps;
 #[cfg(test)]
 mod tests;
 
-pub use areas::Extent;
+pub use areas::{Extent, capability};
 pub use memory::Memory;

@@ -1,6 +1,6 @@
 //! The driver's lines on its mappings.
 
-ghost use Rattle.std.specs.Prelude.{◌≡◌, ◌≢◌, ◌+◌, ◌-◌, ◌<◌, ◌≤◌, ◌^◌, ◌∷◌, ℕ, List, length, slice_index, Some, IfSome, OnOk, Err};
+ghost use Rattle.std.specs.Prelude.{◌≡◌, ◌≢◌, ◌+◌, ◌-◌, ◌<◌, ◌≤◌, ◌^◌, ◌∷◌, ℕ, List, length, slice_index, true, Some, IfSome, OnOk, Err};
 ghost use Rattle.vd_pool.specs.Memory as pool;
 ghost use Rattle.vd_bounce.specs.Frames.{Holds, Keeps};
 ghost use Rattle.vd_domain.specs.Held.{mapping_of};
@@ -9,6 +9,7 @@ ghost use Rattle.vd_model.specs.Setting.{Setting};
 ghost use Rattle.vd_model.specs.Acts.{Act, Driver, Streaming, Unmapped, Synced_cpu};
 ghost use Rattle.vd_model.specs.Turn.{lift};
 ghost use Rattle.vd_model.specs.DriverTurns.{map_turn, on_mapping, unmap_turn, syncdev_turn, synccpu_turn};
+ghost use Rattle.vd_model.specs.Puts.{is_from_device};
 ghost use Rattle.vd_answers.specs.Tells.{Tells, MayTell};
 ghost use Rattle.vd_memory_lines.specs.Given.{given};
 ghost use Rattle.vd_memory_lines.specs.Mapped.{TellsMapped};
@@ -60,6 +61,25 @@ fn end_mapping(domain: &mut Domain, pool: &mut Pool, number: u64, want: &Want, b
     let (_before, rest) = bytes.split_at_mut(want.offset as usize);
     let (part, _after) = rest.split_at_mut(want.len as usize);
     let _ended = domain.unmap(pool, number, part);
+}
+
+/// Puts a live mapping's bytes, which come from the device, into its range of the buffer.
+fn fetch(domain: &mut Domain, pool: &mut Pool, number: u64, want: &Want, bytes: &mut [u8])
+    requires holds { Holds domain.old.bounce.frames pool.old }
+    requires size { pool.old.per_page ≡ domain.old.bounce.per_page }
+    requires live { IfSome (mapping_of domain.old number) (λ m. m.want ≡ want.now) }
+    requires way { is_from_device want.now.dir ≡ true }
+    requires range { want.now.offset + want.now.len ≤ length bytes.old }
+    ensures ok { (x : Setting) (acts : List Act) (m : Streaming) → mapping_of domain.old number ≡ Some m → memory.Stands x acts domain.old pool.old
+        → memory.Stands x (Driver (Synced_cpu m) ∷ acts) domain.new pool.new }
+    ensures given { (x : Setting) (acts : List Act) (m : Streaming) → mapping_of domain.old number ≡ Some m → memory.Stands x acts domain.old pool.old
+        → (j : ℕ) → j < length bytes.old → slice_index bytes.new j ≡ given x.per_page acts m j (slice_index bytes.old j) }
+    ensures len { length bytes.new ≡ length bytes.old }
+    ensures same { (domain.new ≡ domain.old) × (pool.new ≡ pool.old) }
+{
+    let (_before, rest) = bytes.split_at_mut(want.offset as usize);
+    let (part, _after) = rest.split_at_mut(want.len as usize);
+    let _synced = domain.sync_cpu(pool, number, part);
 }
 
 impl Memory {
@@ -130,5 +150,27 @@ impl Memory {
             // A live mapping's range is never refused.
             Err(errno) => told.refused(errno),
         }
+    }
+
+    /// Gives a mapping's bytes to the buffer, as an unmap does.
+    pub fn synccpu<T: Hears>(&mut self, pool: &mut Pool, number: u64, told: &mut T)
+        requires ready { T.is_ready told.old }
+        requires held { IsHeld self.old pool.old }
+        requires reached { IsReached self.old pool.old }
+        ensures line { (x : Setting) (acts : List Act) → Stands x acts self.old pool.old →
+            Tells (λ said. T.heard told.old said told.new) (lift Driver (on_mapping acts number synccpu_turn)) (After x acts self.new pool.new) }
+        ensures rest { KeepsRest self.old self.new pool.old pool.new }
+    {
+        let want = match self.domain.info(number) {
+            Some(info) => info.want,
+            None => return told.refused(Errno::Noent),
+        };
+        if !want.dir.is_from_device() {
+            return told.refused(Errno::Inval);
+        }
+        let mut bytes = self.buffers.lend(want.buffer);
+        fetch(&mut self.domain, pool, number, &want, &mut bytes);
+        self.buffers.give(want.buffer, bytes);
+        told.done();
     }
 }

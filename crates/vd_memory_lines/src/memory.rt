@@ -1,8 +1,12 @@
 //! A device's memory.
 
-ghost use Rattle.std.specs.Prelude.{◌≡◌, ◌+◌, ◌*◌, ◌/◌, ◌<◌, ◌≤◌, [], length, replicate, None, IfOk, OnOk};
+ghost use Rattle.std.specs.Prelude.{◌≡◌, ◌+◌, ◌*◌, ◌/◌, ◌<◌, ◌≤◌, ◌∷◌, ◌++◌, ◌||◌, nat_lt, List, [], length, replicate, None, IfOk, OnOk};
 ghost use Rattle.vd_bounce.specs.Frames.{Holds, Keeps};
 ghost use Rattle.vd_model.specs.Setting.{Setting};
+ghost use Rattle.vd_model.specs.Acts.{Act, Node, State, Closed};
+ghost use Rattle.vd_model.specs.State.{Cleared};
+ghost use Rattle.vd_model.specs.Live.{live_mappings, live_regions, registration_of};
+ghost use Rattle.vd_model.specs.NodeTurns.{registration_end};
 ghost use Rattle.vd_pool.specs.Memory as pool;
 
 use std::alloc::{AllocError, Global};
@@ -21,6 +25,7 @@ pub struct Memory {
 }
 
 impl Memory {
+    ghost use Rattle.vd_memory_lines.specs.Rest.{KeepsRest, KeepsFrames};
     ghost use Rattle.vd_memory_lines.specs.Stands.{Stands, IsHeld};
 
     /// A memory with no buffer and nothing mapped: so many slots of bounce memory, then coherent memory up to
@@ -47,6 +52,32 @@ impl Memory {
             buffers: Buffers::new(alloc),
             scratch: Vec::new(alloc),
         })
+    }
+
+    /// Ends the daemon's session: the registration, where one stands, and then the area.
+    pub fn end_session(&mut self, pool: &mut Pool)
+        requires { IsHeld self.old pool.old }
+        ensures stands { (x : Setting) (acts : List Act) → Stands x acts self.old pool.old
+            → Stands x (Node Closed ∷ registration_end (registration_of acts) ++ acts) self.new pool.new }
+        ensures rest { KeepsRest self.old self.new pool.old pool.new }
+    {
+        self.domain.end_session(pool);
+    }
+
+    /// Ends the bounce region, as a reset of the device does. Mappings, regions and buffers stay.
+    pub fn reset(&mut self)
+        ensures stands { (x : Setting) (acts : List Act) (m : pool.PoolMemory) → Stands x acts self.old m → Stands x (State Cleared ∷ acts) self.new m }
+        ensures rest { KeepsFrames self.old self.new }
+    {
+        self.domain.reset_bounce();
+    }
+
+    /// Whether a mapping or a coherent region is live.
+    pub fn is_live(&self) -> bool
+        ensures { (x : Setting) (acts : List Act) (m : pool.PoolMemory) → Stands x acts self.now m
+            → result ≡ (nat_lt 0 (length (live_mappings acts)) || nat_lt 0 (length (live_regions acts))) }
+    {
+        self.domain.live() > 0
     }
 
     /// Gives every frame back and keeps nothing.

@@ -7,7 +7,7 @@ use crate::Memory;
 use std::alloc::{AllocError, Global};
 use std::test::Fail;
 use vd_answers::Kept;
-use vd_model::{Answer, Dir, Item, Tag, Want};
+use vd_model::{Answer, AreaStep, Dir, DriverStep, Item, Tag, Want};
 use vd_pool::Pool;
 
 /// Three bytes of buffer 0.
@@ -80,5 +80,24 @@ fn an_area_keeps_bytes(rt: HostRuntime) -> Result<(), Fail> {
     assert!(rt; area.is_ok() && get.is_ok() && zeroed.is_ok() && coherent.is_ok());
     assert!(rt; tells_text(&got, &[0, 7, 8]));
     assert!(rt; tells_mapped(&shared, 0x7fff000));
+    Ok(())
+}
+
+#[test]
+fn lines_are_answered_by_form(rt: HostRuntime) -> Result<(), Fail> {
+    let mut made = Kept::new(rt.alloc())?;
+    let mut put = Kept::new(rt.alloc())?;
+    let mut got = Kept::new(rt.alloc())?;
+    let mut sized = Kept::new(rt.alloc())?;
+    let mut pool = Pool::new(rt.alloc(), 1);
+    let mut memory = Memory::new(rt.alloc(), 16384, 32768, 1)?;
+    let coherent = memory.driver_line(&mut pool, &DriverStep::Coherent { len: 1 }, &mut made);
+    memory.cput(0, 1, b"ab", &mut put);
+    let get = memory.cget(0, 0, 3, &mut got);
+    let area = memory.area_line(&mut pool, &AreaStep::Area { bytes: 0x2000 }, &mut sized);
+    memory.discard(&mut pool);
+    assert!(rt; coherent.is_ok() && get.is_ok() && area.is_ok());
+    assert!(rt; tells_mapped(&made, 0x7fff000));
+    assert!(rt; tells_text(&got, b"\0ab"));
     Ok(())
 }

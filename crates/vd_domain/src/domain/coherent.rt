@@ -17,7 +17,7 @@ ghost use Rattle.vd_iova.specs.Space.{taken_at};
 ghost use Rattle.vd_domain.specs.Held.{SameCounts, bounce_slots, coherent_of, has_slot};
 ghost use Rattle.vd_domain.specs.Lists.{region_at, regions_of};
 ghost use Rattle.vd_domain.specs.Lookup.{Lies, lower_or};
-ghost use Rattle.vd_domain.specs.Handed.{coherent_made, range_of};
+ghost use Rattle.vd_domain.specs.Handed.{coherent_made, range_of, region_place};
 
 use crate::access::end_of;
 use crate::booking::enroll;
@@ -122,6 +122,22 @@ impl Domain {
             }),
             None => None,
         }
+    }
+
+    /// The address of some bytes of a coherent region, or why there is none: it isn't live, or they aren't within its
+    /// slots.
+    pub fn place_in(&self, number: u64, offset: u64, len: u64) -> Result<u64, Errno>
+        ensures { result ≡ region_place (coherent_of self.now number) offset len }
+    {
+        let region = match self.region(number) {
+            Some(region) => region,
+            None => return Err(Errno::Noent),
+        };
+        let size = SLOT_SIZE * pages(region.len);
+        if offset > size || len > size - offset {
+            return Err(Errno::Inval);
+        }
+        Ok(SLOT_SIZE * region.slot + offset)
     }
 
     /// What is kept of a live region.

@@ -1,6 +1,7 @@
 //! Streaming mappings: a range of a buffer of the driver, bounced through the pages of a device.
 
-ghost use Rattle.std.specs.Prelude.{◌≡◌, ◌+◌, ◌-◌, ◌*◌, ◌/◌, ◌<◌, ◌≤◌, ◌^◌, ◌↔◌, List, ◌∷◌, length, true, false, Some, None, IfSome, IfOk, OnOk, OnErr, IsErr};
+ghost use Rattle.std.specs.Prelude.{◌≡◌, ◌+◌, ◌-◌, ◌*◌, ◌/◌, ◌<◌, ◌≤◌, ◌^◌, ◌↔◌, ◌==◌, List, ◌∷◌, length, true, false, Some, None, IfSome, IfOk, OnOk, OnErr, IsErr};
+ghost use Rattle.std.specs.List.{list_any};
 ghost use Rattle.std.specs.Option.{option_map};
 ghost use Rattle.vd_num.specs.Number.{pages_of};
 ghost use Rattle.vd_bounce.specs.Frames.{Holds, Keeps};
@@ -10,13 +11,14 @@ ghost use Rattle.vd_model.specs.Live.{maps, iova_of};
 ghost use Rattle.vd_model.specs.Place.{place_of, taken_slots};
 ghost use Rattle.vd_model.specs.Puts.{is_to_device, is_from_device, bus_bytes};
 ghost use Rattle.vd_domain.specs.Held.{SameCounts, mapping_of};
-ghost use Rattle.vd_domain.specs.Lists.{mapping_at};
+ghost use Rattle.vd_domain.specs.Lists.{mapping_at, mappings_of};
 ghost use Rattle.vd_domain.specs.Handed.{IsOf, streaming_of, map_info};
 
 use crate::booking::book;
 use crate::domain::{Domain, NotLive, SyncError};
 use crate::pages::{pages_met, show};
-use crate::streaming::{Bounced, gives, hands};
+use crate::streaming::Bounced;
+use std::collections::BTreeMap;
 use vd_model::{MapError, MapInfo, Mapping, Want};
 use vd_num::{SLOT_SIZE, pages};
 use vd_pool::Pool;
@@ -74,6 +76,13 @@ impl Domain {
         }
     }
 
+    /// Whether a live mapping is of a buffer. It goes over the live mappings.
+    pub fn maps_buffer(&self, buffer: u64) -> bool
+        ensures { result ≡ list_any (λ m. m.want.buffer == buffer) self.now.live }
+    {
+        has_buffer(self.mappings.by_number(), buffer)
+    }
+
     /// Ends a mapping, and fills the slice with its bytes where it comes from the device.
     pub fn unmap(&mut self, pool: &mut Pool, number: u64, out: &mut [u8]) -> Result<(), NotLive>
         requires holds { Holds self.old.bounce.frames pool.old }
@@ -93,7 +102,7 @@ impl Domain {
             Some(m) => m,
             None => return Err(NotLive),
         };
-        if gives(m.want.dir) {
+        if m.want.dir.is_from_device() {
             self.bounce.get(pool, SLOT_SIZE * m.slot, out);
         }
         let per_page = self.bounce.per_page() as u64;
@@ -126,7 +135,7 @@ impl Domain {
             Some(m) => m,
             None => return Err(SyncError::NotLive),
         };
-        if !hands(m.want.dir) {
+        if !m.want.dir.is_to_device() {
             return Err(SyncError::WrongDir);
         }
         self.bounce.put(pool, SLOT_SIZE * m.slot, bytes);
@@ -156,7 +165,7 @@ impl Domain {
             Some(m) => m,
             None => return Err(SyncError::NotLive),
         };
-        if !gives(m.want.dir) {
+        if !m.want.dir.is_from_device() {
             return Err(SyncError::WrongDir);
         }
         self.bounce.get(pool, SLOT_SIZE * m.slot, out);
@@ -170,4 +179,16 @@ impl Domain {
     {
         self.mappings.get(number)
     }
+}
+
+/// Whether one of some mappings is of a buffer.
+fn has_buffer(mappings: &BTreeMap<u64, Bounced>, buffer: u64) -> bool
+    ensures { result ≡ list_any (λ m. m.want.buffer == buffer) (mappings_of mappings.now.entries) }
+{
+    for (_number, mapping) in mappings {
+        if mapping.want.buffer == buffer {
+            return true;
+        }
+    }
+    false
 }

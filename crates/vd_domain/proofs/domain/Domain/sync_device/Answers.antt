@@ -36,14 +36,14 @@ returns-in-None-clause-not_live c = ((λ _. missing c), (λ _. refl))
 pub returns-in-None-clause-wrong : goal.returns-in-None-clause-wrong
 returns-in-None-clause-wrong c = λ m e. absurd (not_found {m = m} (sym (missing c) ∙ e))
 
-pub returns-then-not-hands-clause-not_live : goal.returns-then-not-hands-clause-not_live
-returns-then-not-hands-clause-not_live c =
-    ((λ e. absurd (let f = e in cc)), (λ e. absurd (not_found {m = mapping_at (c.args.number, c.in-Some.m)} (sym e ∙ there (goal.at.returns-then-not-hands-clause-not_live c).In-Some))))
+pub returns-then-not-is_to_device-clause-not_live : goal.returns-then-not-is_to_device-clause-not_live
+returns-then-not-is_to_device-clause-not_live c =
+    ((λ e. absurd (let f = e in cc)), (λ e. absurd (not_found {m = mapping_at (c.args.number, c.in-Some.m)} (sym e ∙ there (goal.at.returns-then-not-is_to_device-clause-not_live c).In-Some))))
 
-pub returns-then-not-hands-clause-wrong : goal.returns-then-not-hands-clause-wrong
-returns-then-not-hands-clause-wrong c = λ m e.
-    let off : c.hands.result ≡ false = grind (arith, common_steps) in
-    ((λ _. ap (λ (k : Streaming). is_to_device k.want.dir) (is_mapping (goal.at.returns-then-not-hands-clause-wrong c).In-Some m e) ∙ sym c.hands.ensures ∙ off), (λ _. refl))
+pub returns-then-not-is_to_device-clause-wrong : goal.returns-then-not-is_to_device-clause-wrong
+returns-then-not-is_to_device-clause-wrong c = λ m e.
+    let off : c.is_to_device.result ≡ false = grind (arith, common_steps) in
+    ((λ _. ap (λ (k : Streaming). is_to_device k.want.dir) (is_mapping (goal.at.returns-then-not-is_to_device-clause-wrong c).In-Some m e) ∙ sym c.is_to_device.ensures ∙ off), (λ _. refl))
 
 pub overflow_mul-m : goal.overflow_mul-m
 overflow_mul-m c =
@@ -65,9 +65,9 @@ returns-clause-not_live c =
 
 pub returns-clause-wrong : goal.returns-clause-wrong
 returns-clause-wrong c = λ m e.
-    let on : c.hands.result ≡ true = grind (arith, common_steps) in (
+    let on : c.is_to_device.result ≡ true = grind (arith, common_steps) in (
       (λ f. absurd (let g = f in cc)),
-      (λ f. absurd (true≢false (sym on ∙ c.hands.ensures ∙ sym (ap (λ (k : Streaming). is_to_device k.want.dir) (is_mapping (goal.at.returns-clause-wrong c).In-Some m e)) ∙ f))),
+      (λ f. absurd (true≢false (sym on ∙ c.is_to_device.ensures ∙ sym (ap (λ (k : Streaming). is_to_device k.want.dir) (is_mapping (goal.at.returns-clause-wrong c).In-Some m e)) ∙ f))),
     )
 
 pub returns-clause-ok : goal.returns-clause-ok

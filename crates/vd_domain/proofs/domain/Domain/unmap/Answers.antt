@@ -17,7 +17,7 @@ use Rattle.vd_domain.proofs.Steps.{fetched, unmapped}
 use Rattle.vd_domain.specs.contracts.domain.Domain.{the_view}
 use Rattle.vd_domain.proofs.Opened.{stands_inside, stands_with, fit_with, found_inside, not_found, same_found}
 use Rattle.vd_domain.proofs.domain.Domain.unmap.Goals as goal
-use Rattle.vd_domain.proofs.domain.Domain.unmap.Goals.{In-Some, In-None, After-pages, After-pages_met, After-remove, then-gives, else-gives}
+use Rattle.vd_domain.proofs.domain.Domain.unmap.Goals.{In-Some, In-None, After-pages, After-pages_met, After-remove, then-is_from_device, else-is_from_device}
 
 missing : (c : In-None) → mapping_of c.args.self.now c.args.number ≡ None
 missing c = c.in-None.ensures.live
@@ -151,13 +151,13 @@ returns-clause-given c = λ x acts m e s given.
     let is = is_mapping i m e in
     let way : is_from_device c.in-Some.m.want.dir ≡ true = sym (ap (λ (k : Streaming). is_from_device k.want.dir) is) ∙ given in
     let l = long i in
-    let bytes : c.if-gives.out ≡ bus_bytes x.per_page acts (4096 * c.in-Some.m.slot) c.in-Some.m.want.len = elim c.if-gives.branch [
-      | then-gives w ↦
+    let bytes : c.if-is_from_device.out ≡ bus_bytes x.per_page acts (4096 * c.in-Some.m.slot) c.in-Some.m.want.len = elim c.if-is_from_device.branch [
+      | then-is_from_device w ↦
           (w.out-is
           ∙ fetched x acts _ _ (stands_inside c.self.view_is s) _ _ _ c.self.invariant (4096 * c.in-Some.m.slot) c.in-Some.m.want.len w.get.new.out (omega arith)
           (live_there _ _ _ _ c.self.invariant c.args.number (mapping_at (c.args.number, c.in-Some.m)) (found i))
           (λ j below. w.get.ensures j (omega arith)))
-      | else-gives w ↦ absurd (true≢false (sym way ∙ sym c.gives.ensures ∙ w.if-gives.false))
+      | else-is_from_device w ↦ absurd (true≢false (sym way ∙ sym c.is_from_device.ensures ∙ w.if-is_from_device.false))
     ] in
     bytes ∙ sym (ap (λ (k : Streaming). bus_bytes x.per_page acts (iova_of k) k.want.len) is)
 
@@ -165,7 +165,7 @@ pub returns-clause-left : goal.returns-clause-left
 returns-clause-left c = λ m e given.
     let i = (goal.at.returns-clause-left c).In-Some in
     let way : is_from_device c.in-Some.m.want.dir ≡ false = sym (ap (λ (k : Streaming). is_from_device k.want.dir) (is_mapping i m e)) ∙ given in
-    elim c.if-gives.branch [
-      | then-gives w ↦ absurd (true≢false (sym w.if-gives.true ∙ c.gives.ensures ∙ way))
-      | else-gives w ↦ w.out-is
+    elim c.if-is_from_device.branch [
+      | then-is_from_device w ↦ absurd (true≢false (sym w.if-is_from_device.true ∙ c.is_from_device.ensures ∙ way))
+      | else-is_from_device w ↦ w.out-is
     ]
