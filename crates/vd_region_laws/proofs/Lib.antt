@@ -1,0 +1,9 @@
+pub mod Spread
+pub mod Leaves
+pub mod Standing
+pub mod Lines
+pub mod RingPuts
+pub mod RingLines
+pub mod Turns
+pub mod LiveRegions
+pub mod RegionInstances

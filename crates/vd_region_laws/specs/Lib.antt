@@ -1,0 +1,2 @@
+pub mod RegionLaw
+pub mod RegionInstances
