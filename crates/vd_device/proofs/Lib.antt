@@ -1,0 +1,4 @@
+-- The lemmas of this crate.
+pub mod Parts
+pub mod Turns
+pub mod Taken
