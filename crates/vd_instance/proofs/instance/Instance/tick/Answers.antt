@@ -1,0 +1,8 @@
+use Rattle.std.proofs.Common.{refl, [], ◌∷◌}
+use Rattle.vd_model.specs.Acts.{Message_act}
+use Rattle.vd_model.specs.Messages.{Elapsed}
+use Rattle.vd_instance.proofs.Kept.{device_line}
+use Rattle.vd_instance.proofs.instance.Instance.tick.Goals as goal
+
+pub returns-clause-stands : goal.returns-clause-stands
+returns-clause-stands c = λ x made done m s. device_line c.tick.new.self (Message_act (Elapsed c.args.now) ∷ []) refl s (c.tick.ensures.stands x made done m s.device)

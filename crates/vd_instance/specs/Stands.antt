@@ -1,0 +1,50 @@
+-- A device with its queues, over the pool that its frames were taken from, stands for the acts that were done to it.
+use Rattle.std.specs.Prelude.{ℕ, ◌≡◌, ◌≤◌, ◌++◌, List, [], Option, None}
+use Rattle.vd_pool.specs.Memory.{PoolMemory as Pool}
+use Rattle.vd_bounce.specs.Frames.{Holds, Keeps}
+use Rattle.vd_model.specs.Setting.{Setting}
+use Rattle.vd_model.specs.Creation.{Creation}
+use Rattle.vd_model.specs.Acts.{Act, state_acts}
+use Rattle.vd_model.specs.State.{num_of}
+use Rattle.vd_model.specs.Queues.{ring_of, chains_out}
+use Rattle.vd_device.specs.Stands as device
+use Rattle.vd_instance.specs.declared.instance.Instance.{Instance}
+
+-- none of its queues has a ring yet, and each has a size that a driver may choose
+pub record Stands (x : Setting) (made : Creation) (acts : List Act) (i : Instance) (m : Pool) : Type 0 where
+  pub device : device.Stands x made acts i.device m
+  pub no_ring : (q : ℕ) → ring_of acts q ≡ None
+  pub no_chain : (q : ℕ) → chains_out acts q ≡ []
+  pub sizes : (q : ℕ) → num_of (state_acts acts) q ≤ 32768
+
+-- some acts are those that it stands for
+pub record IsReached (i : Instance) (m : Pool) : Type 0 where
+  pub setting : Setting
+  pub made : Creation
+  pub acts : List Act
+  pub stands : Stands setting made acts i m
+
+-- the frames that it holds, page by page, and how many slots a page has
+abbrev pub frames : Instance → List (Option ℕ)
+frames i = device.frames i.device
+
+abbrev pub page_size : Instance → ℕ
+page_size i = i.device.memory.domain.bounce.per_page
+
+-- its frames are out of the pool, which has pages of its size
+pub record IsHeld (i : Instance) (m : Pool) : Type 0 where
+  pub holds : Holds (frames i) m
+  pub size : m.per_page ≡ page_size i
+
+-- no count is above this number
+abbrev pub IsWithin : ℕ → Instance → Type 0
+IsWithin most i = device.IsWithin most i.device
+
+-- it stands for these acts after those before
+abbrev pub After : Setting → Creation → List Act → Instance → Pool → List Act → Type 0
+After x made done i m acts = Stands x made (acts ++ done) i m
+
+-- the frames of others stay, its own are in the pool, and a page keeps its size
+pub record KeepsOthers (old new : Instance) (before after : Pool) : Type 0 where
+  pub kept : Keeps (frames old) (frames new) before after
+  pub page : page_size new ≡ page_size old
