@@ -1,0 +1,11 @@
+pub mod Leaving
+pub mod Daemons
+pub mod Counting
+pub mod Lists
+pub mod Owners
+pub mod Drivers
+pub mod Adding
+pub mod FreeLemmas
+pub mod Chained
+pub mod Reclaiming
+pub mod Waiting

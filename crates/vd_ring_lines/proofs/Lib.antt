@@ -1,0 +1,14 @@
+pub mod Leaving
+pub mod Lying
+pub mod Putting
+pub mod Moving
+pub mod Turning
+pub mod Kicks
+pub mod Publishes
+pub mod Orders
+pub mod Chains
+pub mod Adds
+pub mod Completions
+pub mod Polls
+pub mod Drops
+pub mod Making

@@ -1,0 +1,5 @@
+-- The words of this crate's contracts.
+pub mod Completed
+pub mod Known
+pub mod Stands
+pub mod After
