@@ -1,17 +1,13 @@
-pub mod Lists
-pub mod Search
-pub mod Memory
-pub mod PagesShown
+-- The lemmas of this crate.
 pub mod Names
-pub mod Marks
-pub mod Zeros
-pub mod Turns
-pub mod Buffers
-pub mod Loads
-pub mod Maps
-pub mod Unmaps
+pub mod Beside
+pub mod Counts
+pub mod Held
+pub mod Engines
 pub mod Deeds
-pub mod Served
-pub mod Waits
-pub mod Plays
-mod Conditions
+pub mod AfterLine
+pub mod AfterMaking
+pub mod AfterEnd
+pub mod AfterTick
+pub mod Outcomes
+pub mod Refusals

@@ -1,10 +1,5 @@
-pub mod Kept
-pub mod Pages
-pub mod Back
-pub mod Held
-pub mod Stands
-pub mod Frugal
+-- The words of this crate's contracts.
 pub mod Machine
-pub mod Written
-pub mod Replies
-pub mod Played
+pub mod Does
+pub mod Frugal
+pub mod Ticked

@@ -1,23 +1,19 @@
 //! The engine: it answers each step of a script as the history machine does.
 //!
-//! It keeps the state of up to eight devices, each with its driver's buffers, its mappings and the
-//! bounce memory that they share with the daemon, and never the list of steps. `Engine::step`
-//! promises the history machine's answer from every engine that stands for a history, and that the
-//! engine then stands for the history with that step.
+//! It keeps up to eight devices by their names over one pool of frames, and never the list of steps. `Engine::play`
+//! promises the history machine's answer from every engine that stands for a history, and that the engine then stands
+//! for the history with that step.
 #![tactic(auto)]
 
-mod bounce;
-mod buffer;
-mod device;
+mod clock;
+mod control;
+mod devices;
 mod engine;
-mod kept;
-mod place;
-mod script;
-mod streaming;
-mod top;
-mod waiting;
+mod lines;
+mod raw;
+#[cfg(test)]
+mod tests;
 
+pub use devices::Named;
 pub use engine::{Engine, Stepped};
-pub use script::Exit;
-pub use top::script_top;
-pub use vd_options::{Options, WordsError, read_words};
+pub use vd_device::Sizes;

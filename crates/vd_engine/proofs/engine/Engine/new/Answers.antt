@@ -1,6 +1,9 @@
-use Rattle.std.proofs.Common.{◌≡◌, arith}
-use Rattle.vd_engine.proofs.Deeds.{made_none}
+use Rattle.std.proofs.Common.{refl}
+use Rattle.vd_engine.proofs.Engines.{new_stands, reached_new}
 use Rattle.vd_engine.proofs.engine.Engine.new.Goals as goal
 
 pub returns-clause-stands : goal.returns-clause-stands
-returns-clause-stands c = λ x pages. let same : c.from.result ≡ x.bounce = omega (arith, c.from.ensures, pages) in made_none x c.from.result same _ c.new.ensures.items
+returns-clause-stands c = λ x sized. new_stands x _ sized c.requires c.new.ensures.size refl refl c.new-2.ensures.items
+
+pub returns-clause-reached : goal.returns-clause-reached
+returns-clause-reached c = reached_new _ c.requires c.new.ensures.size refl refl c.new-2.ensures.items
