@@ -1,8 +1,10 @@
 -- The words of a run, and the options that they ask for.
-use Rattle.std.specs.Prelude.{◌≡◌, ◌<◌, ◌≤◌, ℕ, ◌+◌, ◌-◌, ◌*◌, List, [], ◌∷◌, codes, Bool, ◌==◌, nat_le, nat_lt, ◌&&◌, if◌then◌else◌, Option, Some, None, is_some, unwrap_or}
+use Rattle.std.specs.Prelude.{◌≡◌, ◌<◌, ◌≤◌, ℕ, ◌+◌, ◌-◌, ◌*◌, ◌/◌, ◌%◌, List, [], ◌∷◌, codes, Bool, ◌==◌, nat_le, nat_lt, ◌&&◌, if◌then◌else◌, Option, Some, None, is_some, unwrap_or}
 use Rattle.std.specs.Option.{option_map, option_and_then}
 use Rattle.std.specs.Str.{bytes_eq}
 use Rattle.vd_options.specs.declared.words.Chosen.{Chosen}
+use Rattle.vd_options.specs.declared.words.Page.{Page}
+use Rattle.vd_options.specs.declared.words.Page.TheVariants.{Small, Large}
 use Rattle.vd_options.specs.declared.options.Options.{Options}
 
 -- the number that decimal digits after n make, if all of these are digits
@@ -21,18 +23,31 @@ abbrev pub between : ℕ → ℕ → Option ℕ → Option ℕ
 between lo hi None = None
 between lo hi (Some n) = if nat_le lo n && nat_le n hi then Some n else None
 
--- what was chosen, with bounce pages or pages of I/O memory, unless they were chosen before
+-- the page of so many bytes
+abbrev pub page_of : List ℕ → Option Page
+page_of value = if bytes_eq value (codes "4096") then Some Small else (if bytes_eq value (codes "65536") then Some Large else None)
+
+-- the slots of a page
+abbrev pub slots_of : Page → ℕ
+slots_of Small = 1
+slots_of Large = 16
+
+-- what was chosen, with a page, with slots of bounce memory or with slots of I/O memory, unless they were chosen before
+abbrev pub with_page : Chosen → Option Page → Option Chosen
+with_page chosen page = if is_some chosen.page then None else option_map (λ p. record { page = Some p; bounce = chosen.bounce; iova = chosen.iova }) page
+
 abbrev pub with_bounce : Chosen → Option ℕ → Option Chosen
-with_bounce chosen pages = if is_some chosen.bounce then None else option_map (λ n. record { bounce = Some n; iova = chosen.iova }) pages
+with_bounce chosen slots = if is_some chosen.bounce then None else option_map (λ n. record { page = chosen.page; bounce = Some n; iova = chosen.iova }) slots
 
 abbrev pub with_iova : Chosen → Option ℕ → Option Chosen
-with_iova chosen pages = if is_some chosen.iova then None else option_map (λ n. record { bounce = chosen.bounce; iova = Some n }) pages
+with_iova chosen slots = if is_some chosen.iova then None else option_map (λ n. record { page = chosen.page; bounce = chosen.bounce; iova = Some n }) slots
 
 -- what was chosen, with one pair of words more
 abbrev pub with_pair : Chosen → List ℕ → List ℕ → Option Chosen
 with_pair chosen flag value =
-    if bytes_eq flag (codes "--bounce-pages") then with_bounce chosen (between 2 16384 (decimal_of value))
-    else (if bytes_eq flag (codes "--iova-pages") then with_iova chosen (between 0 65536 (decimal_of value)) else None)
+    if bytes_eq flag (codes "--page") then with_page chosen (page_of value)
+    else (if bytes_eq flag (codes "--bounce-pages") then with_bounce chosen (between 2 16384 (decimal_of value))
+    else (if bytes_eq flag (codes "--iova-pages") then with_iova chosen (between 0 65536 (decimal_of value)) else None))
 
 -- what is chosen by pairs of words
 abbrev pub with_pairs : Chosen → List (List ℕ) → Option Chosen
@@ -40,27 +55,48 @@ with_pairs chosen [] = Some chosen
 with_pairs chosen (flag ∷ []) = None
 with_pairs chosen (flag ∷ value ∷ rest) = option_and_then (λ more. with_pairs more rest) (with_pair chosen flag value)
 
--- the pages of bounce memory and of I/O memory
+-- the slots of bounce memory, of I/O memory and of a page
 pub record Sizes : Type 0 where
   pub bounce : ℕ
   pub iova : ℕ
+  pub per_page : ℕ
 
--- what was chosen, else 16,384 and 32,768; there is more I/O memory than bounce memory, and at most 65,536 pages
+-- whether sizes are whole pages of bounce memory, two at least, and more I/O memory, at most 65,536 slots
+abbrev pub are_fit : Sizes → Bool
+are_fit s = nat_le (2 * s.per_page) s.bounce && (s.bounce % s.per_page == 0) && nat_lt s.bounce s.iova && nat_le s.iova 65536
+
+-- what was chosen, else pages of one slot, 16,384 slots and 32,768 slots
+abbrev pub chosen_sizes : Chosen → Sizes
+chosen_sizes chosen = record { bounce = unwrap_or chosen.bounce 16384; iova = unwrap_or chosen.iova 32768; per_page = slots_of (unwrap_or chosen.page Small) }
+
 abbrev pub sizes_of : Chosen → Option Sizes
-sizes_of chosen =
-    if nat_lt (unwrap_or chosen.bounce 16384) (unwrap_or chosen.iova 32768) && nat_le (unwrap_or chosen.iova 32768) 65536
-    then Some (record { bounce = unwrap_or chosen.bounce 16384; iova = unwrap_or chosen.iova 32768 }) else None
+sizes_of chosen = if are_fit (chosen_sizes chosen) then Some (chosen_sizes chosen) else None
+
+-- nothing was chosen yet
+abbrev pub nothing_chosen : Chosen
+nothing_chosen = record { page = None; bounce = None; iova = None }
 
 -- the sizes that the words of a run ask for: `run` and then pairs, in any order, each at most once
 abbrev pub asked_sizes : List (List ℕ) → Option Sizes
 asked_sizes [] = None
-asked_sizes (first ∷ rest) =
-    if bytes_eq first (codes "run") then option_and_then sizes_of (with_pairs (record { bounce = None; iova = None }) rest) else None
+asked_sizes (first ∷ rest) = if bytes_eq first (codes "run") then option_and_then sizes_of (with_pairs nothing_chosen rest) else None
+
+-- sizes that a device can have
+pub record AreFit (s : Sizes) : Type 0 where
+  pub some : 0 < s.per_page
+  pub few : s.per_page ≤ 16
+  pub whole : s.bounce ≡ s.per_page * (s.bounce / s.per_page)
+  pub low : 2 * s.per_page ≤ s.bounce
+  pub order : s.bounce < s.iova
+  pub small : s.iova ≤ 65536
+
+-- the sizes in options, whose page has its size in bytes
+abbrev pub sizes_in : Options → Sizes
+sizes_in o = record { bounce = o.bounce_pages; iova = o.iova_pages; per_page = o.page / 4096 }
 
 -- the options have these sizes, and what is chosen where no word says otherwise
 pub record IsOptions (o : Options) (sizes : Option Sizes) : Type 0 where
-  pub sizes_are : sizes ≡ Some (record { bounce = o.bounce_pages; iova = o.iova_pages })
+  pub asked : sizes ≡ Some (sizes_in o)
+  pub fit : AreFit (sizes_in o)
   pub sectors : o.sectors ≡ 2048
   pub image : o.image ≡ None
-  pub above : o.bounce_pages < o.iova_pages
-  pub small : o.iova_pages ≤ 65536

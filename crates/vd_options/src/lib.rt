@@ -1,6 +1,6 @@
 //! The options of a run, and the words that ask for them.
 //!
-//! The engine stands on it. `read_words` gives the options that the words of a run ask for, by the
+//! The program stands on it. `read_words` gives the options that the words of a run ask for, by the
 //! definition of `specs/`, and refuses exactly the words of any other form.
 #![tactic(auto)]
 

@@ -1,7 +1,7 @@
 //! The words of a run.
 
 ghost use Rattle.std.specs.Prelude.{◌≡◌, ◌≤◌, ◌^◌, MatchResult, MatchOption, None, map, string_bytes};
-ghost use Rattle.vd_options.specs.Words.{decimal_from, decimal_of, between, with_bounce, with_iova, with_pair, with_pairs, sizes_of, asked_sizes, IsOptions};
+ghost use Rattle.vd_options.specs.Words.{decimal_from, decimal_of, between, page_of, slots_of, with_page, with_bounce, with_iova, with_pair, with_pairs, nothing_chosen, sizes_of, asked_sizes, IsOptions};
 
 use crate::options::Options;
 use std::alloc::Global;
@@ -16,9 +16,29 @@ pub enum WordsError {
     Memory,
 }
 
+/// How large a page is: 4,096 bytes, or 65,536.
+#[derive(Clone, Copy, Debug)]
+pub enum Page {
+    Small,
+    Large,
+}
+
+impl Page {
+    /// Its slots of 4,096 bytes.
+    fn slots(self) -> u32
+        ensures { result ≡ slots_of self }
+    {
+        match self {
+            Page::Small => 1,
+            Page::Large => 16,
+        }
+    }
+}
+
 /// What the pairs of words chose.
 #[derive(Clone, Copy, Debug)]
 pub struct Chosen {
+    pub page: Option<Page>,
     pub bounce: Option<u32>,
     pub iova: Option<u32>,
 }
@@ -55,11 +75,26 @@ fn number(text: &[u8], lo: u32, hi: u32) -> Option<u32>
     }
 }
 
+/// The page of so many bytes.
+fn page_named(text: &[u8]) -> Option<Page>
+    ensures { result ≡ page_of text.now }
+{
+    if text == b"4096".as_slice() {
+        Some(Page::Small)
+    } else if text == b"65536".as_slice() {
+        Some(Page::Large)
+    } else {
+        None
+    }
+}
+
 /// What is chosen by one pair of words more.
 fn add_pair(chosen: &Chosen, flag: &[u8], value: &[u8]) -> Option<Chosen>
     ensures { result ≡ with_pair chosen.now flag.now value.now }
 {
-    if flag == b"--bounce-pages".as_slice() {
+    if flag == b"--page".as_slice() {
+        add_page(chosen, page_named(value))
+    } else if flag == b"--bounce-pages".as_slice() {
         add_bounce(chosen, number(value, 2, 16384))
     } else if flag == b"--iova-pages".as_slice() {
         add_iova(chosen, number(value, 0, 65536))
@@ -68,11 +103,25 @@ fn add_pair(chosen: &Chosen, flag: &[u8], value: &[u8]) -> Option<Chosen>
     }
 }
 
-fn add_bounce(chosen: &Chosen, pages: Option<u32>) -> Option<Chosen>
-    ensures { result ≡ with_bounce chosen.now pages }
+fn add_page(chosen: &Chosen, page: Option<Page>) -> Option<Chosen>
+    ensures { result ≡ with_page chosen.now page }
 {
-    match (chosen.bounce, pages) {
+    match (chosen.page, page) {
+        (None, Some(page)) => Some(Chosen {
+            page: Some(page),
+            bounce: chosen.bounce,
+            iova: chosen.iova,
+        }),
+        _ => None,
+    }
+}
+
+fn add_bounce(chosen: &Chosen, slots: Option<u32>) -> Option<Chosen>
+    ensures { result ≡ with_bounce chosen.now slots }
+{
+    match (chosen.bounce, slots) {
         (None, Some(n)) => Some(Chosen {
+            page: chosen.page,
             bounce: Some(n),
             iova: chosen.iova,
         }),
@@ -80,11 +129,12 @@ fn add_bounce(chosen: &Chosen, pages: Option<u32>) -> Option<Chosen>
     }
 }
 
-fn add_iova(chosen: &Chosen, pages: Option<u32>) -> Option<Chosen>
-    ensures { result ≡ with_iova chosen.now pages }
+fn add_iova(chosen: &Chosen, slots: Option<u32>) -> Option<Chosen>
+    ensures { result ≡ with_iova chosen.now slots }
 {
-    match (chosen.iova, pages) {
+    match (chosen.iova, slots) {
         (None, Some(n)) => Some(Chosen {
+            page: chosen.page,
             bounce: chosen.bounce,
             iova: Some(n),
         }),
@@ -94,9 +144,10 @@ fn add_iova(chosen: &Chosen, pages: Option<u32>) -> Option<Chosen>
 
 /// What pairs of words choose.
 fn read_pairs(words: &[String]) -> Option<Chosen>
-    ensures { result ≡ with_pairs (record { bounce = None; iova = None }) (map string_bytes words.now) }
+    ensures { result ≡ with_pairs nothing_chosen (map string_bytes words.now) }
 {
     let mut chosen = Chosen {
+        page: None,
         bounce: None,
         iova: None,
     };
@@ -114,16 +165,22 @@ fn read_pairs(words: &[String]) -> Option<Chosen>
     Some(chosen)
 }
 
-/// The options of what was chosen, if there is more I/O memory than bounce memory.
+/// The options of what was chosen, if bounce memory has whole pages, two at least, and there is more
+/// I/O memory.
 fn options_of(chosen: &Chosen) -> Option<Options>
     ensures { MatchOption result (sizes_of chosen.now ≡ None) (λ o. IsOptions o (sizes_of chosen.now)) }
 {
     let bounce_pages = chosen.bounce.unwrap_or(16384);
     let iova_pages = chosen.iova.unwrap_or(32768);
+    let per_page = chosen.page.unwrap_or(Page::Small).slots();
+    if bounce_pages < 2 * per_page || bounce_pages % per_page != 0 {
+        return None;
+    }
     if bounce_pages >= iova_pages || iova_pages > 65536 {
         return None;
     }
     Some(Options {
+        page: 4096 * per_page,
         bounce_pages,
         iova_pages,
         sectors: 2048,
@@ -131,9 +188,11 @@ fn options_of(chosen: &Chosen) -> Option<Options>
     })
 }
 
-/// Reads the words of a run: `run`, and then any of the pairs `--bounce-pages N` (2 to 16,384, else
-/// 16,384) and `--iova-pages N` (above the bounce pages and at most 65,536, else 32,768), in any
-/// order, each at most once. N is decimal without leading zeros. It takes no memory yet.
+/// Reads the words of a run: `run`, and then any of the pairs `--page P` (4,096 or 65,536 bytes,
+/// else 4,096), `--bounce-pages N` (slots of 4,096 bytes: 2 to 16,384, else 16,384; whole pages, two
+/// at least) and `--iova-pages N` (above the slots of bounce memory and at most 65,536, else
+/// 32,768), in any order, each at most once. P and N are decimal without leading zeros. It takes no
+/// memory yet.
 pub fn read_words(_alloc: Global, words: &Vec<String>) -> Result<Options, WordsError>
     ensures { MatchResult result
         (λ o. IsOptions o (asked_sizes (map string_bytes words.now.items)))

@@ -12,9 +12,9 @@ use std::io::ErrorKind;
 use std::process::ExitCode;
 use std::rt::Env;
 use std::{env, io};
-use vd_engine::script_top;
 use vd_io::{MemImage, StdSink, StdSource};
 use vd_num::Lines;
+use vd_top::script_top;
 
 /// The words after the program's name.
 fn words<R: Env + AllocGlobal>(rt: &R) -> io::Result<Vec<String>> {
@@ -40,6 +40,3 @@ fn main(rt: HostRuntime) -> ExitCode {
     let exit = script_top(rt.alloc(), &words, &mut source, &mut sink, &mut disk);
     ExitCode::from(exit.status)
 }
-
-#[cfg(test)]
-mod tests;

@@ -1,0 +1,122 @@
+//! Worked rows and the ends of a run, in memory.
+
+mod areas;
+mod chains;
+mod control;
+mod edges;
+mod ends;
+mod memory;
+mod messages;
+
+use std::alloc::{AllocError, Global};
+use std::process::Abort;
+use std::str;
+use std::test::Fail;
+use vd_io::{MemImage, MemSink, MemSource};
+use vd_num::{Bytes, Lines};
+use vd_top::script_top;
+
+/// A worked row: the words of a run, and the lines of its script, each with the reply that is due.
+#[derive(Clone, Copy)]
+pub struct Row {
+    pub name: &'static str,
+    pub words: &'static [&'static str],
+    pub lines: &'static [(&'static str, &'static str)],
+}
+
+/// A script of some words: what it is given, what it writes, and how it ends.
+#[derive(Clone, Copy)]
+pub struct Case<'a> {
+    pub words: &'a [&'a str],
+    pub script: &'a str,
+    pub replies: &'a str,
+    pub status: u8,
+    pub line: u64,
+    pub lines_done: u64,
+}
+
+/// What fails of the outside: the calls of each of the numbers, and each that finds no room left.
+#[derive(Clone, Copy)]
+pub struct Outside<'a> {
+    pub pulls: &'a [u64],
+    pub pushes: &'a [u64],
+    pub room: u64,
+}
+
+/// An outside at which nothing fails.
+pub const SOUND: Outside<'static> = Outside {
+    pulls: &[],
+    pushes: &[],
+    room: 262144,
+};
+
+fn words_of(alloc: Global, words: &[&str]) -> Result<Vec<String>, AllocError> {
+    let mut all = Vec::new(alloc);
+    for word in words {
+        all.push(String::from_str(alloc, word)?)?;
+    }
+    Ok(all)
+}
+
+/// Runs a script.
+pub fn check(
+    rt: &impl Abort,
+    alloc: Global,
+    case: &Case<'_>,
+    outside: Outside<'_>,
+    name: &str,
+) -> Result<(), AllocError> {
+    let words = words_of(alloc, case.words)?;
+    let text = Bytes::from_vec(case.script.as_bytes().to_vec(alloc)?);
+    let mut source = MemSource::new(text, Lines::from_vec(outside.pulls.to_vec(alloc)?));
+    let pushes = Lines::from_vec(outside.pushes.to_vec(alloc)?);
+    let mut sink = MemSink::new(alloc, outside.room, pushes)?;
+    let mut disk = MemImage::new(alloc, 0, Lines::new(alloc))?;
+    let exit = script_top(alloc, &words, &mut source, &mut sink, &mut disk);
+    let written = str::from_utf8(sink.as_slice()).unwrap_or("no text");
+    let is_due = written == case.replies;
+    assert!(rt; is_due, "replies of {name}:\n{written}");
+    assert_eq!(rt; exit.status, case.status, "status of {name}");
+    assert_eq!(rt; exit.line, case.line, "line of {name}");
+    assert_eq!(rt; exit.lines_done, case.lines_done, "lines done of {name}");
+    Ok(())
+}
+
+/// Runs a row to its end.
+fn check_row(rt: &impl Abort, alloc: Global, row: &Row) -> Result<(), AllocError> {
+    let mut script = String::new(alloc);
+    let mut replies = String::new(alloc);
+    for (line, reply) in row.lines {
+        script.push_str(line)?;
+        script.push('\n')?;
+        replies.push_str(reply)?;
+        replies.push('\n')?;
+    }
+    let case = Case {
+        words: row.words,
+        script: script.as_str(),
+        replies: replies.as_str(),
+        status: 0,
+        line: 0,
+        lines_done: row.lines.len() as u64,
+    };
+    check(rt, alloc, &case, SOUND, row.name)
+}
+
+/// Runs rows.
+fn check_rows(rt: &impl Abort, alloc: Global, rows: &[Row]) -> Result<(), AllocError> {
+    for row in rows {
+        check_row(rt, alloc, row)?;
+    }
+    Ok(())
+}
+
+#[test]
+fn worked_rows(rt: HostRuntime) -> Result<(), Fail> {
+    check_rows(&rt, rt.alloc(), &memory::rows())?;
+    check_rows(&rt, rt.alloc(), &areas::rows())?;
+    check_rows(&rt, rt.alloc(), &control::rows())?;
+    check_rows(&rt, rt.alloc(), &messages::rows())?;
+    check_rows(&rt, rt.alloc(), &chains::rows())?;
+    Ok(())
+}

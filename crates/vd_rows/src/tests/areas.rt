@@ -1,0 +1,96 @@
+//! Rows on coherent regions, look-ups and the area of the daemon.
+
+use super::Row;
+
+/// The rows.
+pub fn rows() -> [Row; 4] {
+    [
+        Row {
+            name: "bus-and-coherent",
+            words: &["run"],
+            lines: &[
+                ("dev v", "ok session 0"),
+                ("buf v 616263", "ok 0"),
+                ("map v 0 0 3 to", "ok 0 iova 0x3fff000"),
+                ("load v 0x3ffffff 2", "bus 0x4000000"),
+                ("store v 0x3ffefff 6161", "bus 0x3ffefff"),
+                ("coherent v 1", "ok 0 iova 0x7fff000"),
+                ("load v 0x7fff000 2", "ok 0000"),
+                ("cput v 0 1 7a", "ok"),
+                ("load v 0x7fff000 2", "ok 007a"),
+                ("freecoherent v 0", "ok"),
+                ("load v 0x7fff000 2", "bus 0x7fff000"),
+            ],
+        },
+        Row {
+            name: "lookup-and-reset",
+            words: &["run"],
+            lines: &[
+                ("dev v", "ok session 0"),
+                ("lookup v 0 0xffffffffffffffff", "err 22"),
+                ("buf v 616263", "ok 0"),
+                ("map v 0 0 3 to", "ok 0 iova 0x3fff000"),
+                (
+                    "lookup v 0 0xffffffffffffffff",
+                    "ok offset 0x0 start 0x0 last 0x3ffffff perm 3",
+                ),
+                ("iovainfo v 5 5", "ok start 0x0 last 0x3ffffff capability 1"),
+                ("lookup v 2 1", "err 22"),
+                ("reset v", "ok id 0"),
+                ("recv v", "ok id 0 status 0"),
+                ("answer v 0 0 0", "ok"),
+                ("take v 0", "ok"),
+                ("lookup v 0 0xffffffffffffffff", "err 22"),
+                ("load v 0x3fff000 3", "ok 616263"),
+            ],
+        },
+        Row {
+            name: "registration",
+            words: &["run", "--bounce-pages", "4"],
+            lines: &[
+                ("dev v", "ok session 0"),
+                ("buf v 616263", "ok 0"),
+                ("map v 0 0 3 to", "ok 0 iova 0x3000"),
+                ("area v 16384", "ok base 0x10000000"),
+                ("areaput v 4096 7a", "ok"),
+                ("regumem v 0x10000000 0 12288", "err 22"),
+                ("regumem v 0x10000000 0 16384", "ok"),
+                ("load v 0x3000 3", "ok 616263"),
+                ("load v 0x1000 1", "ok 7a"),
+                ("areaget v 12288 3", "ok 616263"),
+                ("area v 4096", "err 16"),
+                ("regumem v 0x10000000 0 16384", "err 17"),
+                ("deregumem v 0 4096", "err 22"),
+                ("deregumem v 0 16384", "ok"),
+                ("load v 0x1000 1", "bus 0x1000"),
+                ("load v 0x3000 3", "ok 616263"),
+                ("deregumem v 0 16384", "err 2"),
+            ],
+        },
+        Row {
+            name: "large-page",
+            words: &["run", "--page", "65536", "--bounce-pages", "32"],
+            lines: &[
+                ("dev v", "ok session 0"),
+                ("buf v 6162", "ok 0"),
+                ("load v 0x1f000 1", "bus 0x1f000"),
+                ("map v 0 0 2 to", "ok 0 iova 0x1f000"),
+                ("map v 0 0 2 to", "ok 1 iova 0x1e000"),
+                ("load v 0x10000 1", "ok 00"),
+                ("load v 0xffff 1", "bus 0xffff"),
+                ("load v 0x1ffff 2", "bus 0x20000"),
+                ("area v 262144", "ok base 0x10000000"),
+                ("regumem v 0x10001000 0 131072", "err 22"),
+                ("regumem v 0x10000000 0 131072", "ok"),
+                ("areaget v 122880 2", "ok 6162"),
+                ("unmap v 0", "ok"),
+                ("deregumem v 0 131072", "ok"),
+                ("load v 0x1f000 2", "ok 6162"),
+                ("unmap v 1", "ok"),
+                ("regumem v 0x10000000 0 131072", "ok"),
+                ("deregumem v 0 131072", "ok"),
+                ("load v 0x1f000 1", "bus 0x1f000"),
+            ],
+        },
+    ]
+}

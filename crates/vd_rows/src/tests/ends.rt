@@ -1,0 +1,122 @@
+//! How a run ends: its words, faults of the outside, and a reply that is written in part.
+
+use super::{Case, Outside, SOUND, check};
+use std::test::Fail;
+
+#[test]
+fn words_are_refused(rt: HostRuntime) -> Result<(), Fail> {
+    let refused: [&[&str]; 9] = [
+        &[],
+        &["run", "x"],
+        &["run", "--page", "8192"],
+        &["run", "--page", "65536", "--bounce-pages", "24"],
+        &["run", "--page", "65536", "--bounce-pages", "16"],
+        &["run", "--bounce-pages", "1"],
+        &["run", "--iova-pages", "65537"],
+        &["run", "--page", "4096", "--page", "4096"],
+        &["run", "--sectors", "64"],
+    ];
+    for words in refused {
+        let case = Case {
+            words,
+            script: "dev v\n",
+            replies: "",
+            status: 2,
+            line: 0,
+            lines_done: 0,
+        };
+        check(&rt, rt.alloc(), &case, SOUND, "words")?;
+    }
+    Ok(())
+}
+
+#[test]
+fn lines_stop_a_run(rt: HostRuntime) -> Result<(), Fail> {
+    let run = ["run"];
+    let cases = [
+        // the last line lacks its line feed
+        Case {
+            words: &run,
+            script: "dev v\nbuf v 61\nmap v 0 0 1 to\nmap v 0 0 1 to",
+            replies: "ok session 0\nok 0\nok 0 iova 0x3fff000\nok 1 iova 0x3ffe000\n",
+            status: 0,
+            line: 0,
+            lines_done: 4,
+        },
+        // a line that isn't in the grammar
+        Case {
+            words: &run,
+            script: "version\n# nothing\n\nmapp\nversion\n",
+            replies: "ok 0\n",
+            status: 6,
+            line: 4,
+            lines_done: 3,
+        },
+        // a form that isn't served
+        Case {
+            words: &run,
+            script: "version\nimage v 0 1\n",
+            replies: "ok 0\n",
+            status: 6,
+            line: 2,
+            lines_done: 1,
+        },
+    ];
+    for case in &cases {
+        check(&rt, rt.alloc(), case, SOUND, "lines")?;
+    }
+    Ok(())
+}
+
+#[test]
+fn faults_of_the_outside(rt: HostRuntime) -> Result<(), Fail> {
+    let source = Case {
+        words: &["run", "--bounce-pages", "2"],
+        script: "dev v\n",
+        replies: "",
+        status: 3,
+        line: 0,
+        lines_done: 0,
+    };
+    let first_pull = Outside {
+        pulls: &[0],
+        ..SOUND
+    };
+    check(&rt, rt.alloc(), &source, first_pull, "first pull")?;
+    let taken = Case {
+        replies: "ok session 0\n",
+        lines_done: 1,
+        ..source
+    };
+    let second_pull = Outside {
+        pulls: &[1],
+        ..SOUND
+    };
+    check(&rt, rt.alloc(), &taken, second_pull, "second pull")?;
+    let sink = Case {
+        status: 4,
+        ..source
+    };
+    let first_push = Outside {
+        pushes: &[0],
+        ..SOUND
+    };
+    check(&rt, rt.alloc(), &sink, first_push, "first push")?;
+    Ok(())
+}
+
+/// The sink fails within the reply to line 4. Line 3, a comment, is done then.
+#[test]
+fn part_of_a_reply(rt: HostRuntime) -> Result<(), Fail> {
+    let case = Case {
+        words: &["run", "--bounce-pages", "2"],
+        script: "dev v\nbuf v 61\n# one more\nbuf v 62\npeek v 0 0 1\n",
+        replies: "ok session 0\nok 0\nok",
+        status: 4,
+        line: 0,
+        lines_done: 3,
+    };
+    let small = Outside { room: 20, ..SOUND };
+    check(&rt, rt.alloc(), &case, small, "part")?;
+    Ok(())
+}

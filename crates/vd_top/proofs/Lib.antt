@@ -1,0 +1,6 @@
+pub mod Founds
+pub mod Marks
+pub mod Waits
+pub mod Plays
+pub mod Answered
+mod Conditions

@@ -1,0 +1,6 @@
+-- The words of this crate's contracts.
+pub mod Asked
+pub mod Played
+pub mod Replies
+pub mod RunLaws
+pub mod Written
