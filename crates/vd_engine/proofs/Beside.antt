@@ -66,8 +66,9 @@ stands_beside {x} {made} {acts} {m} i old new n held apart keeps s = record {
       inside = s.device.memory.inside;
     };
   };
-  no_ring = s.no_ring;
-  no_chain = s.no_chain;
+  rings = s.rings;
+  places = s.places;
+  apart = s.apart;
   sizes = s.sizes;
 }
 

@@ -2,6 +2,7 @@
 use Rattle.std.proofs.Common.{◌≡◌, ℕ, ◌+◌, ◌≤◌, false, refl, ap, subst, ◌∙◌, sym, arith, List, [], ◌∷◌, None, Some, Result, Ok}
 use Rattle.std.proofs.Common.{Err as Bad}
 use Rattle.std.specs.Prelude.{All, MatchResult, OnErr}
+use Rattle.std.specs.List.{slice_index_or}
 use Rattle.std.specs.Option.{option_map_or}
 use Rattle.vd_num.specs.declared.errno.Errno.TheVariants.{Nodev}
 use Rattle.vd_model.specs.declared.step.Step.{Step}
@@ -53,7 +54,7 @@ reached_new e fit page now asked none = record { setting = x; history = []; stan
 -- ---- counts
 
 pub counts_later : (least most : ℕ) (ds : List Named) → least ≤ most → All (λ d. IsWithin least d.instance) ds → All (λ d. IsWithin most d.instance) ds
-counts_later least most ds le all = λ k d below. within_later least most _ le (all k d below)
+counts_later least most ds le all = λ k d below. within_later least most (slice_index_or ds k d).instance le (all k d below)
 
 -- the same deeds, under a greater number
 pub stands_later : (x : Setting) (done : List Deed) (least most : ℕ) (e : Engine) → least ≤ most → StandsAt x done least e → StandsAt x done most e

@@ -1,12 +1,12 @@
 -- A device that is open, set up and on the bus.
-use Rattle.std.proofs.Common.{◌≡◌, ℕ, ◌<◌, Bool, true, false, refl, ap, sym, ◌∙◌, not, nat_lt, nat_le, arith, List, [], ◌∷◌, Option, Some, None, Result, Ok, Err, true≢false, if◌then◌else◌}
+use Rattle.std.proofs.Common.{◌≡◌, ◌<◌, true, refl, sym, ◌∙◌, nat_lt, arith, [], ◌∷◌, Result, Ok, Err, true≢false}
 use Rattle.std.proofs.lemmas.Bool.Decides.{nat_tests}
 use Rattle.vd_num.specs.declared.errno.Errno.{Errno}
 use Rattle.vd_pool.specs.Memory.{PoolMemory as Pool}
 use Rattle.vd_model.specs.Setting.{Setting}
 use Rattle.vd_model.specs.Creation.{Creation}
 use Rattle.vd_model.specs.Acts.{Node, Bus, State, Opened, Attached}
-use Rattle.vd_model.specs.State.{StateAct, Max_set, is_queue}
+use Rattle.vd_model.specs.State.{Max_set, is_queue}
 use Rattle.vd_model.specs.BusTurns.{shape_of}
 use Rattle.vd_state.specs.Kept.{Kept}
 use Rattle.vd_state.specs.Stands as state

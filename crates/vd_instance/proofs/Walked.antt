@@ -1,7 +1,6 @@
 -- A walk changes no part of a device but how its domain is kept.
 use Rattle.std.proofs.Common.{◌≡◌, ℕ, ◌≤◌, Bool, true, false, refl, subst, sym, List, [], ◌++◌, Option, Some, None, Result, Ok, Err, if◌then◌else◌}
 use Rattle.std.specs.Prelude.{IfSome, ◌==◌, ◌||◌}
-use Rattle.vd_num.specs.declared.errno.Errno.{Errno}
 use Rattle.vd_num.specs.declared.errno.Errno.TheVariants.{Inval}
 use Rattle.vd_pool.specs.Memory.{PoolMemory as Pool}
 use Rattle.vd_model.specs.declared.answer.Answer.{Answer}
@@ -30,8 +29,9 @@ with_domain : {x : Setting} {made : Creation} {done : List Act} {i : Instance} {
     → Stands x made done (record i { device = record i.device { memory = record i.device.memory { domain = h } } }) n
 with_domain h s stands = record {
   device = record { path = s.device.path; memory = record { domain = stands; buffers = s.device.memory.buffers; inside = s.device.memory.inside } };
-  no_ring = s.no_ring;
-  no_chain = s.no_chain;
+  rings = s.rings;
+  places = s.places;
+  apart = s.apart;
   sizes = s.sizes;
 }
 

@@ -1,20 +1,31 @@
 -- A device with its queues, over the pool that its frames were taken from, stands for the acts that were done to it.
-use Rattle.std.specs.Prelude.{ℕ, ◌≡◌, ◌≤◌, ◌++◌, List, [], Option, None}
+use Rattle.std.specs.Prelude.{ℕ, ◌≡◌, ◌≤◌, ◌++◌, List, length, Option, Some, None, slice_index_or}
 use Rattle.vd_pool.specs.Memory.{PoolMemory as Pool}
 use Rattle.vd_bounce.specs.Frames.{Holds, Keeps}
 use Rattle.vd_model.specs.Setting.{Setting}
 use Rattle.vd_model.specs.Creation.{Creation}
 use Rattle.vd_model.specs.Acts.{Act, state_acts}
 use Rattle.vd_model.specs.State.{num_of}
-use Rattle.vd_model.specs.Queues.{ring_of, chains_out}
+use Rattle.vd_model.specs.Queues.{Ring, ring_of}
 use Rattle.vd_device.specs.Stands as device
+use Rattle.vd_ring_lines.specs.declared.held.HeldRing.{HeldRing}
+use Rattle.vd_ring_lines.specs.Stands.{RingStands}
 use Rattle.vd_instance.specs.declared.instance.Instance.{Instance}
 
--- none of its queues has a ring yet, and each has a size that a driver may choose
+-- what is kept of the ring of a queue, if it has one
+abbrev pub kept_ring : Instance → ℕ → Option HeldRing
+kept_ring i q = slice_index_or i.rings.items q None
+
+-- no two queues have their rings in one region
+abbrev pub HaveOwnRegions : List Act → Type 0
+HaveOwnRegions acts = (q k : ℕ) (r s : Ring) → ring_of acts q ≡ Some r → ring_of acts k ≡ Some s → r.region ≡ s.region → q ≡ k
+
+-- there is a place for the ring of each queue, and each queue has a size that a driver may choose
 pub record Stands (x : Setting) (made : Creation) (acts : List Act) (i : Instance) (m : Pool) : Type 0 where
   pub device : device.Stands x made acts i.device m
-  pub no_ring : (q : ℕ) → ring_of acts q ≡ None
-  pub no_chain : (q : ℕ) → chains_out acts q ≡ []
+  pub rings : (q : ℕ) → RingStands acts q (kept_ring i q)
+  pub places : length i.rings.items ≡ made.queues
+  pub apart : HaveOwnRegions acts
   pub sizes : (q : ℕ) → num_of (state_acts acts) q ≤ 32768
 
 -- some acts are those that it stands for

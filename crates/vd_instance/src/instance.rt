@@ -14,10 +14,12 @@ ghost use Rattle.vd_model.specs.ControlTurns.{plain_creation};
 ghost use Rattle.vd_device.specs.Sizes.{AreFit, IsSized};
 ghost use Rattle.vd_device.specs.Stands as kept;
 
+use crate::rings::no_rings;
 use std::alloc::{AllocError, Global};
 use vd_device::{Device, Sizes};
 use vd_num::Bytes;
 use vd_pool::Pool;
+use vd_ring_lines::HeldRing;
 
 /// The features of a device that is made ready: VERSION_1, ACCESS_PLATFORM, FLUSH, INDIRECT_DESC and EVENT_IDX.
 const FEATURES: u64 = 0x3_3000_0200;
@@ -42,9 +44,10 @@ fn make_ready(device: &mut Device)
     device.path.attached = true;
 }
 
-/// A device and its queues. It holds frames of a pool, so it can't be dropped.
+/// A device, and a place for the ring of each of its queues. It holds frames of a pool, so it can't be dropped.
 pub struct Instance {
     pub device: Device,
+    pub rings: Vec<Option<HeldRing>>,
 }
 
 impl Instance {
@@ -65,9 +68,9 @@ impl Instance {
         ensures held { IfOk result (λ i. (m : PoolMemory) → m.per_page ≡ sizes.per_page → IsHeld i m) }
         ensures within { IfOk result (λ i. IsWithin 0 i) }
     {
-        Ok(Instance {
-            device: Device::new(alloc, features, queues, config, sizes)?,
-        })
+        let rings = no_rings(alloc, queues)?;
+        let device = Device::new(alloc, features, queues, config, sizes)?;
+        Ok(Instance { device, rings })
     }
 
     /// A device of one queue that is open, set up and on the bus.
@@ -79,9 +82,10 @@ impl Instance {
         ensures within { IfOk result (λ i. IsWithin 1 i) }
     {
         let config = Bytes::from_vec(vec![in alloc; 0; CONFIG_LEN]?);
+        let rings = no_rings(alloc, 1)?;
         let mut device = Device::new(alloc, FEATURES, 1, config, sizes)?;
         make_ready(&mut device);
-        Ok(Instance { device })
+        Ok(Instance { device, rings })
     }
 
     /// Tells the time.
@@ -107,7 +111,7 @@ impl Instance {
         requires { Holds (frames self) pool.old }
         ensures { Keeps (frames self) (replicate 0 None) pool.old pool.new }
     {
-        let Instance { device } = self;
+        let Instance { device, rings: _ } = self;
         device.discard(pool);
     }
 }

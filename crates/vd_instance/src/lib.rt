@@ -3,7 +3,11 @@
 //! It stands on `vd_device` and on the lines of rings. `step` and `queue_step` answer a line exactly as the definitions do.
 #![tactic(auto)]
 
+mod driver;
 mod instance;
+mod known;
+mod line;
+mod rings;
 mod step;
 mod walk;
 

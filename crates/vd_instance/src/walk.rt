@@ -1,13 +1,10 @@
 //! The line that walks a chain.
 
-ghost use Rattle.std.specs.Prelude.{◌≡◌, ◌+◌, ◌-◌, ◌^◌, ◌≤◌, ℕ, List, Option, Some, None, if◌then◌else◌, IfSome};
+ghost use Rattle.std.specs.Prelude.{◌≡◌, ℕ, List};
 ghost use Rattle.vd_pool.specs.Memory.{PoolMemory};
 ghost use Rattle.vd_model.specs.Setting.{Setting};
-ghost use Rattle.vd_model.specs.Creation.{Creation, has_feature};
-ghost use Rattle.vd_model.specs.Acts.{Act, state_acts};
-ghost use Rattle.vd_model.specs.State.{queue_info};
-ghost use Rattle.vd_model.specs.BusTurns.{is_missing};
-ghost use Rattle.vd_state_lines.specs.After.{StateBefore};
+ghost use Rattle.vd_model.specs.Creation.{Creation};
+ghost use Rattle.vd_model.specs.Acts.{Act};
 ghost use Rattle.vd_model.specs.DaemonTurns.{walk_turn};
 ghost use Rattle.vd_model.specs.History.{needs_session};
 ghost use Rattle.vd_answers.specs.Tells.{MayTell};
@@ -15,34 +12,12 @@ ghost use Rattle.vd_memory_lines.specs.Rest.{KeepsRest};
 ghost use Rattle.vd_ring_memory.specs.Known.{IsKnown};
 
 use crate::instance::Instance;
+use crate::known::{has_indirect, known};
 use std::alloc::AllocError;
 use vd_answers::Hears;
-use vd_model::QueueInfo;
 use vd_num::Errno;
 use vd_pool::Pool;
 use vd_ring_memory::{ChainAt, walk};
-use vd_state::State;
-
-/// The bit of the feature INDIRECT_DESC.
-const INDIRECT_DESC: u32 = 28;
-
-/// Whether indirect tables were accepted.
-fn has_indirect(features: u64) -> bool
-    ensures { result ≡ has_feature features 28 }
-{
-    (features >> INDIRECT_DESC) % 2 == 1
-}
-
-/// What is known of a queue, where the device has it.
-fn known(state: &State, queue: u32) -> Option<QueueInfo>
-    ensures { (made : Creation) (acts : List Act) → StateBefore made acts state.now
-        → result ≡ (if is_missing made queue then None else Some (queue_info (state_acts acts) queue)) }
-{
-    match state.info(queue) {
-        Ok(info) => Some(info),
-        Err(_) => None,
-    }
-}
 
 impl Instance {
     ghost use Rattle.vd_instance.specs.Stands.{Stands, After, IsHeld, IsReached};

@@ -4,7 +4,7 @@ use Rattle.vd_model.specs.Reading.{reading}
 use Rattle.vd_model.specs.declared.step.ControlStep.{ControlStep}
 use Rattle.vd_model.specs.declared.step.ControlStep.TheVariants.{Image}
 use Rattle.vd_model.specs.declared.step.QueueStep.{QueueStep}
-use Rattle.vd_model.specs.declared.step.QueueStep.TheVariants.{Walk}
+use Rattle.vd_model.specs.declared.step.QueueStep.TheVariants.{Fetch, Execute, Finish, Submit}
 use Rattle.vd_model.specs.declared.step.Step.{Step}
 use Rattle.vd_model.specs.declared.step.Step.TheVariants.{Control, Device, Queue}
 
@@ -13,10 +13,13 @@ abbrev pub control_served : ControlStep → Bool
 control_served (Image name first count) = false
 control_served step = true
 
--- of the lines on a queue, walk
+-- of the lines on a queue, all but those of block requests
 abbrev pub queue_served : QueueStep → Bool
-queue_served (Walk queue head) = true
-queue_served step = false
+queue_served (Fetch queue) = false
+queue_served (Execute queue) = false
+queue_served (Finish queue) = false
+queue_served (Submit queue form) = false
+queue_served step = true
 
 -- whether a step's line form is built
 abbrev pub served : Step → Bool

@@ -12,3 +12,5 @@ pub mod Completions
 pub mod Polls
 pub mod Drops
 pub mod Making
+pub mod RingSizes
+pub mod MadeRings

@@ -92,6 +92,12 @@ module _ (x : Setting) (acts : List Act) (k : Held) (size number at : ℕ) (s : 
       ∙ ap (λ n. record { size = size; desc = 4096 * (at / 4096); driver = n; device = place.device }) driver
       ∙ ap (λ n. record { size = size; desc = 4096 * (at / 4096); driver = 4096 * (at / 4096) + driver_offset size; device = n }) device
 
+-- the place of its parts, computed from its address
+pub made_at : (x : Setting) (acts : List Act) (k : Held) (size number at : ℕ) → IsRingSize size → at ≡ 4096 * (at / 4096) → ring_map k ≡ ring_memory x (Driver (Region_made (record { number = number; slot = at / 4096; len = ring_bytes size })) ∷ acts)
+    → (place : RingPlace) → place ≡ record { size = size; desc = at; driver = (at + driver_offset size) % 2 ^ 64; device = (at + device_offset size) % 2 ^ 64 } → place ≡ ring_at size (at / 4096)
+made_at x acts k size number at s base seen place e =
+    placed_at x acts k size number at s place base seen (ap (λ (p : RingPlace). p.size) e) (ap (λ (p : RingPlace). p.desc) e) (ap (λ (p : RingPlace). p.driver) e) (ap (λ (p : RingPlace). p.device) e)
+
 -- a ring that was made in a region is held
 pub held_made : (acts : List Act) (x : Setting) (m : Pool) (q : ℕ) (k : Held) (size number at : ℕ) (s : IsRingSize size) (place : RingPlace) (side : DriverSide) → at ≡ 4096 * (at / 4096) → number ≡ regions acts → ring_map k ≡ ring_memory x (Driver (Region_made (record { number = number; slot = at / 4096; len = ring_bytes size })) ∷ acts)
     → Stands x (Driver (Region_made (record { number = number; slot = at / 4096; len = ring_bytes size })) ∷ acts) k m

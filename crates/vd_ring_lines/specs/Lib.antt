@@ -3,3 +3,4 @@ pub mod Completed
 pub mod Known
 pub mod Stands
 pub mod After
+pub mod Made

@@ -1,5 +1,6 @@
 //! What is kept of a ring, and what is known of its queue.
 
+use std::alloc::Global;
 use vd_model::QueueInfo;
 use vr_driver::DriverRing;
 
@@ -15,4 +16,12 @@ pub struct HeldRing {
 pub struct KnownQueue {
     pub info: Option<QueueInfo>,
     pub event_idx: bool,
+}
+
+/// A ring that is to be made: its queue, its size, and where its memory comes from.
+#[derive(Clone, Copy)]
+pub struct RingWanted {
+    pub queue: KnownQueue,
+    pub size: u64,
+    pub alloc: Global,
 }

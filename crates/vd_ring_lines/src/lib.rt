@@ -5,6 +5,7 @@
 #![tactic(auto)]
 
 mod adding;
+mod creation;
 mod held;
 mod laws;
 mod polling;
@@ -14,8 +15,8 @@ mod rings;
 mod tests;
 
 pub use adding::add;
-pub use held::{HeldRing, KnownQueue};
+pub use held::{HeldRing, KnownQueue, RingWanted};
 pub use laws::kept_ring;
 pub use polling::poll;
 pub use publishing::publish;
-pub use rings::unring;
+pub use rings::{ring, unring};

@@ -1,12 +1,12 @@
 //! Worked rows and the ends of a run, in memory.
 
 mod areas;
-mod chains;
 mod control;
 mod edges;
 mod ends;
 mod memory;
 mod messages;
+mod rings;
 
 use std::alloc::{AllocError, Global};
 use std::process::Abort;
@@ -117,6 +117,6 @@ fn worked_rows(rt: HostRuntime) -> Result<(), Fail> {
     check_rows(&rt, rt.alloc(), &areas::rows())?;
     check_rows(&rt, rt.alloc(), &control::rows())?;
     check_rows(&rt, rt.alloc(), &messages::rows())?;
-    check_rows(&rt, rt.alloc(), &chains::rows())?;
+    check_rows(&rt, rt.alloc(), &rings::rows())?;
     Ok(())
 }

@@ -99,6 +99,21 @@ impl DriverRing {
         })
     }
 
+    /// Where the ring is.
+    pub fn place(&self) -> RingPlace
+        ensures { result ≡ self.now.place }
+    {
+        self.place
+    }
+
+    /// Takes the ring to be at another place, of the same size.
+    pub fn set_place(&mut self, place: RingPlace)
+        requires { place.size ≡ self.old.place.size }
+        ensures { self.new ≡ record self.old { place = place } }
+    {
+        self.place = place;
+    }
+
     /// Puts parts into the least free descriptors, and answers the head of the chain.
     fn place_chain<M: Mem>(&mut self, mem: &mut M, parts: &[Part]) -> u16
         requires in_reach { TableInReach (M.told mem.old) (M.span mem.old) self.old.place }

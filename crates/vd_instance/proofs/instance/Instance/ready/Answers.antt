@@ -1,9 +1,10 @@
-use Rattle.std.proofs.Common.{◌≡◌, ℕ, List, [], ◌∷◌, refl, ap, subst, sym, ◌∙◌, arith}
+use Rattle.std.proofs.Common.{ℕ, List, [], ◌∷◌, length, refl, ap, subst, sym, ◌∙◌, arith}
 use Rattle.vd_bounce.specs.Frames.{Holds}
 use Rattle.vd_model.specs.Acts.{Node, Bus, State, Opened, Attached}
 use Rattle.vd_model.specs.State.{Max_set}
 use Rattle.vd_memory_lines.specs.declared.memory.Memory.{Memory}
 use Rattle.vd_device.specs.Stands as device
+use Rattle.vd_instance.proofs.Fresh.{no_own, empty_stands}
 use Rattle.vd_instance.proofs.instance.Instance.ready.Goals as goal
 
 pub returns-clause-stands : goal.returns-clause-stands
@@ -12,8 +13,9 @@ returns-clause-stands c = λ x m sized.
     record {
       device = subst (λ (config : List ℕ). device.Stands x (record { features = 0x330000200; queues = 1; config = config }) (Bus Attached ∷ State (Max_set 0 256) ∷ Node Opened ∷ []) c.make_ready.new.device m)
           (c.from_vec-config.ensures ∙ c.in_ok-vec.ensures.items_if_clones_equal (λ y h. h)) made;
-      no_ring = λ q. refl;
-      no_chain = λ q. refl;
+      rings = empty_stands (Bus Attached ∷ State (Max_set 0 256) ∷ Node Opened ∷ []) 1 c.in_ok-rings.rings.items c.in_ok-rings.ensures (λ q. refl) (λ q. refl) (λ q. refl);
+      places = ap length c.in_ok-rings.ensures;
+      apart = no_own (Bus Attached ∷ State (Max_set 0 256) ∷ Node Opened ∷ []) (λ q. refl);
       sizes = λ q. omega arith;
     }
 

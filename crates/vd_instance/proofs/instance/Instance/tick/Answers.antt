@@ -1,8 +1,9 @@
-use Rattle.std.proofs.Common.{refl, [], ◌∷◌}
+use Rattle.std.proofs.Common.{refl, false, [], ◌∷◌}
 use Rattle.vd_model.specs.Acts.{Message_act}
 use Rattle.vd_model.specs.Messages.{Elapsed}
-use Rattle.vd_instance.proofs.Kept.{device_line}
+use Rattle.vd_instance.specs.Stands.{kept_ring}
+use Rattle.vd_instance.proofs.Kept.{device_line, spares_all}
 use Rattle.vd_instance.proofs.instance.Instance.tick.Goals as goal
 
 pub returns-clause-stands : goal.returns-clause-stands
-returns-clause-stands c = λ x made done m s. device_line c.tick.new.self (Message_act (Elapsed c.args.now) ∷ []) refl s (c.tick.ensures.stands x made done m s.device)
+returns-clause-stands c = λ x made done m s. device_line (λ n. false) c.tick.new.self (Message_act (Elapsed c.args.now) ∷ []) (λ q. spares_all (kept_ring c.args.self.now q)) refl s (c.tick.ensures.stands x made done m s.device)

@@ -1,9 +1,8 @@
-use Rattle.std.proofs.Common.{◌≡◌, ℕ, ◌≤◌, ap, sym, subst, ◌∙◌, arith}
+use Rattle.std.proofs.Common.{ap, sym, ◌∙◌, arith}
 use Rattle.vd_model.specs.Acts.{state_acts}
 use Rattle.vd_model.specs.State.{queue_info}
 use Rattle.vd_model.specs.BusTurns.{is_missing}
 use Rattle.vd_model.specs.DaemonTurns.{walk_turn}
-use Rattle.vd_model.specs.History.{needs_session}
 use Rattle.vd_answers.proofs.Telling.{may_tell_as}
 use Rattle.vd_device.proofs.Turns.{session_open}
 use Rattle.vd_instance.proofs.Walked.{small_by, walk_tells, walk_none}

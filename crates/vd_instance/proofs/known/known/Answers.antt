@@ -2,7 +2,7 @@ use Rattle.std.proofs.Common.{ap, sym, ◌∙◌, not, Some, None, if◌then◌e
 use Rattle.vd_model.specs.Acts.{state_acts}
 use Rattle.vd_model.specs.State.{queue_info}
 use Rattle.vd_model.specs.BusTurns.{shape_of}
-use Rattle.vd_instance.proofs.walk.known.Goals as goal
+use Rattle.vd_instance.proofs.known.known.Goals as goal
 
 pub returns-in-Ok : goal.returns-in-Ok
 returns-in-Ok c = λ made acts s.

@@ -1,0 +1,11 @@
+use Rattle.std.proofs.Common.{ap, ◌∙◌}
+use Rattle.vd_model.specs.Creation.{has_feature}
+use Rattle.vd_model.specs.Acts.{state_acts}
+use Rattle.vd_model.specs.BusTurns.{shape_of}
+use Rattle.vd_instance.proofs.instance.Instance.known_queue.Goals as goal
+
+pub returns : goal.returns
+returns c = λ x made acts m s. record {
+  info = c.known.ensures made acts s.device.path.state;
+  events = c.has_event_idx.ensures ∙ ap (λ n. has_feature n 29) (c.features.ensures (shape_of made) (state_acts acts) s.device.path.state);
+}

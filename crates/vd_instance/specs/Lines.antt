@@ -1,0 +1,30 @@
+-- The driver's lines on a ring that a queue has, and which line on the device frees the region of a ring.
+use Rattle.std.specs.Prelude.{ℕ, ◌<◌, List, length, Bool, false, ◌&&◌}
+use Rattle.vd_model.specs.Creation.{Creation}
+use Rattle.vd_model.specs.Setting.{Setting}
+use Rattle.vd_model.specs.Acts.{Act}
+use Rattle.vd_model.specs.Live.{is_attached}
+use Rattle.vd_model.specs.Turn.{Turn}
+use Rattle.vd_model.specs.Queues.{is_ring_region}
+use Rattle.vd_model.specs.RingTurns.{unring_turn, add_turn, publish_turn, poll_turn}
+use Rattle.vd_model.specs.declared.step.DevStep.{DevStep}
+use Rattle.vd_model.specs.declared.step.DevStep.TheVariants.{Driver}
+use Rattle.vd_model.specs.declared.step.DriverStep.TheVariants.{FreeCoherent}
+use Rattle.vd_instance.specs.declared.line.RingLine.{RingLine}
+use Rattle.vd_instance.specs.declared.line.RingLine.TheVariants.{Unring, Add, Publish, Poll}
+
+abbrev pub ring_line_turn : Setting → Creation → List Act → ℕ → RingLine → Turn Act
+ring_line_turn x made acts q Unring = unring_turn made acts q
+ring_line_turn x made acts q (Add parts) = add_turn made acts q parts.now
+ring_line_turn x made acts q Publish = publish_turn x made acts q
+ring_line_turn x made acts q Poll = poll_turn x made acts q
+
+-- a chain that is added has parts
+abbrev pub HasParts : RingLine → Type 0
+HasParts (Add parts) = 0 < length parts.now
+HasParts _ = Unit {0}
+
+-- the line frees the region of a ring, on a device on the bus
+abbrev pub frees_ring : Creation → List Act → DevStep → Bool
+frees_ring made acts (Driver (FreeCoherent region)) = is_attached acts && is_ring_region acts region made.queues
+frees_ring made acts _ = false
