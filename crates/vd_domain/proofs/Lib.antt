@@ -25,3 +25,4 @@ pub mod Shows
 pub mod Beside
 pub mod Seeing
 pub mod Sessions
+pub mod Passed

@@ -1,16 +1,17 @@
 //! Values by numbers that are given out in order.
 
-ghost use Rattle.std.specs.Prelude.{◌≡◌, ◌+◌, ◌<◌, ◌^◌, ◌==◌, not, ℕ, [], ◌∷◌, ◌++◌, ◌-◌, List, filter, find, length, IfOk, OnErr};
+ghost use Rattle.std.specs.Prelude.{◌≡◌, ◌+◌, ◌<◌, ◌^◌, ◌==◌, not, ℕ, [], ◌∷◌, ◌++◌, ◌-◌, List, filter, find, length, nat_lt, IfOk, OnErr};
 ghost use Rattle.std.specs.Option.{option_map};
+ghost use Rattle.vd_domain.specs.Numbered.{IsRising};
 
 use std::alloc::{AllocError, Global};
-use std::collections::BTreeMap;
 use std::marker::Model;
 
 /// Values with numbers from 0 on, in the order in which they were made. A number isn't given out again.
 #[derive(Drop)]
 pub struct Numbered<T: Drop> {
-    map: BTreeMap<u64, T>,
+    /// The numbers rise, since each new one is the greatest.
+    entries: Vec<(u64, T)>,
     made: u64,
 }
 
@@ -19,9 +20,9 @@ impl<T: Drop> Model for Numbered<T> {
 
     ghost Value = { Numbered T };
 
-    ghost view = { λ n. record { entries = n.map.entries; made = n.made } };
+    ghost view = { λ n. record { entries = n.entries.items; made = n.made } };
 
-    ghost invariant = { λ n. IsRising 0 n.made n.map.entries };
+    ghost invariant = { λ n. IsRising 0 n.made n.entries.items };
 }
 
 impl<T: Copy + Drop> Numbered<T> {
@@ -30,7 +31,7 @@ impl<T: Copy + Drop> Numbered<T> {
         ensures { result ≡ record { entries = []; made = 0 } }
     {
         Numbered {
-            map: BTreeMap::new(alloc),
+            entries: Vec::new(alloc),
             made: 0,
         }
     }
@@ -47,7 +48,7 @@ impl<T: Copy + Drop> Numbered<T> {
         ensures value { result ≡ length self.now.entries }
         ensures small { result < 2 ^ 63 }
     {
-        self.map.len() as u64
+        self.entries.len() as u64
     }
 
     /// Adds a value and answers its number.
@@ -58,8 +59,8 @@ impl<T: Copy + Drop> Numbered<T> {
         ensures err { OnErr result (self.new ≡ self.old) }
     {
         let number = self.made;
-        match self.map.insert(number, value) {
-            Ok(_) => {
+        match self.entries.push((number, value)) {
+            Ok(()) => {
                 self.made = number + 1;
                 Ok(number)
             }
@@ -71,21 +72,26 @@ impl<T: Copy + Drop> Numbered<T> {
     pub fn get(&self, number: u64) -> Option<T>
         ensures { result ≡ option_map (λ e. e.1) (find (λ e. e.0 == number) self.now.entries) }
     {
-        self.map.get(&number).copied()
+        let at = count_below(&self.entries, number);
+        if at < self.entries.len() && self.entries[at].0 == number {
+            Some(self.entries[at].1)
+        } else {
+            None
+        }
     }
 
     /// The values by their numbers.
-    pub fn by_number(&self) -> &BTreeMap<u64, T>
-        ensures { result.now.entries ≡ self.now.entries }
+    pub fn by_number(&self) -> &[(u64, T)]
+        ensures { result.now ≡ self.now.entries }
     {
-        &self.map
+        &self.entries
     }
 
     /// Takes the value of this number away.
     pub fn remove(&mut self, number: u64)
         ensures { self.new ≡ record self.old { entries = filter (λ e. not (e.0 == number)) self.old.entries } }
     {
-        self.map.remove(&number);
+        take_out(&mut self.entries, number);
     }
 
     /// Takes the value that was added last away, as if it had not been added.
@@ -95,7 +101,36 @@ impl<T: Copy + Drop> Numbered<T> {
         ensures last { (es : List (ℕ × T)) (value : T) → self.old.entries ≡ es ++ (self.old.made - 1, value) ∷ [] → self.new ≡ record { entries = es; made = self.old.made - 1 } }
     {
         let number = self.made - 1;
-        self.map.remove(&number);
+        take_out(&mut self.entries, number);
         self.made = number;
+    }
+}
+
+/// How many of some numbers that rise are below this one. Its entry stands there, if it has one.
+fn count_below<T: Copy + Drop>(entries: &[(u64, T)], number: u64) -> usize
+    requires { (high : ℕ) × IsRising 0 high entries.now }
+    ensures { result ≡ length (filter (λ e. nat_lt e.0 number) entries.now) }
+{
+    let mut low = 0;
+    let mut high = entries.len();
+    while low < high {
+        let middle = low + (high - low) / 2;
+        if entries[middle].0 < number {
+            low = middle + 1;
+        } else {
+            high = middle;
+        }
+    }
+    low
+}
+
+/// Takes the entry of this number away, if there is one. The numbers rise.
+fn take_out<T: Copy + Drop>(entries: &mut Vec<(u64, T)>, number: u64)
+    requires { (high : ℕ) × IsRising 0 high entries.old.items }
+    ensures { entries.new.items ≡ filter (λ e. not (e.0 == number)) entries.old.items }
+{
+    let at = count_below(entries, number);
+    if at < entries.len() && entries[at].0 == number {
+        entries.remove(at);
     }
 }

@@ -24,7 +24,6 @@ use crate::booking::enroll;
 use crate::domain::{Domain, NotLive};
 use crate::pages::{Pages, hold};
 use crate::streaming::Extent;
-use std::collections::BTreeMap;
 use vd_bounce::BounceMap;
 use vd_iova::{Full, Iova};
 use vd_model::{MapError, Mapping, Region};
@@ -175,13 +174,13 @@ impl Domain {
 }
 
 /// The coherent region of least start that overlaps a range.
-fn first_in(extents: &BTreeMap<u64, Extent>, range: Range) -> Option<Region>
-    requires { All (λ e. Lies e.1) extents.now.entries }
-    ensures { result ≡ first_region (map region_of (regions_of extents.now.entries)) range.start range.last }
+fn first_in(extents: &[(u64, Extent)], range: Range) -> Option<Region>
+    requires { All (λ e. Lies e.1) extents.now }
+    ensures { result ≡ first_region (map region_of (regions_of extents.now)) range.start range.last }
 {
     let mut lowest = None;
-    for (_number, extent) in extents {
-        let region = whole(*extent);
+    for entry in extents {
+        let region = whole(entry.1);
         if region.start <= range.last && range.start <= region.last {
             lowest = lower(lowest, region);
         }

@@ -18,7 +18,6 @@ use crate::booking::book;
 use crate::domain::{Domain, NotLive, SyncError};
 use crate::pages::{pages_met, show};
 use crate::streaming::Bounced;
-use std::collections::BTreeMap;
 use vd_model::{MapError, MapInfo, Mapping, Want};
 use vd_num::{SLOT_SIZE, pages};
 use vd_pool::Pool;
@@ -182,11 +181,11 @@ impl Domain {
 }
 
 /// Whether one of some mappings is of a buffer.
-fn has_buffer(mappings: &BTreeMap<u64, Bounced>, buffer: u64) -> bool
-    ensures { result ≡ list_any (λ m. m.want.buffer == buffer) (mappings_of mappings.now.entries) }
+fn has_buffer(mappings: &[(u64, Bounced)], buffer: u64) -> bool
+    ensures { result ≡ list_any (λ m. m.want.buffer == buffer) (mappings_of mappings.now) }
 {
-    for (_number, mapping) in mappings {
-        if mapping.want.buffer == buffer {
+    for entry in mappings {
+        if entry.1.want.buffer == buffer {
             return true;
         }
     }

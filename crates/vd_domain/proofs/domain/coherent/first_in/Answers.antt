@@ -1,48 +1,33 @@
-use Rattle.std.proofs.Common.{◌≡◌, ℕ, List, ◌∷◌, ap, sym, subst, ◌∙◌, map, true, false}
-use Rattle.std.specs.List.{All}
-use Rattle.std.proofs.lemmas.List.Elements.{All-tail}
+use Rattle.std.proofs.Common.{◌≡◌, ◌+◌, ap, sym, ◌∙◌, false, Option, drop}
 use Rattle.vd_model.specs.declared.memory.Region.{Region}
-use Rattle.vd_model.specs.AreaTurns.{first_region, overlaps, region_of}
-use Rattle.vd_domain.specs.declared.streaming.Extent.{Extent}
-use Rattle.vd_domain.specs.Lists.{region_at, regions_of}
-use Rattle.vd_domain.specs.Lookup.{Lies, lower_or}
-use Rattle.vd_domain.proofs.LookedUp.{next_hit, next_miss, meets_both, ends_before, begins_after}
+use Rattle.vd_model.specs.AreaTurns.{overlaps}
+use Rattle.vd_domain.specs.Lookup.{lower_or}
+use Rattle.vd_domain.proofs.LookedUp.{meets_both, ends_before, begins_after}
+use Rattle.vd_domain.proofs.Passed.{first_of_regions, first_met, first_missed, first_past, lie_at}
 use Rattle.vd_domain.proofs.domain.coherent.first_in.Goals as goal
-use Rattle.vd_domain.proofs.domain.coherent.first_in.Goals.{else-region-range-via-then-region-range+else-range-region, else-region-range-via-else-region-range}
+use Rattle.vd_domain.proofs.domain.coherent.first_in.Goals.{then-region-range+then-range-region, else-region-range, else-region-range-via-then-region-range+else-range-region, else-region-range-via-else-region-range}
 
-pub loop-number-preserved-then-range-region : goal.loop-number-preserved-then-range-region
-loop-number-preserved-then-range-region c =
-    let entry : ℕ × Extent = (c.in-Some._number.now, c.in-Some.extent.now) in
-    let rest : List (ℕ × Extent) = c.next.new.self in
-    let all : c.loop-number._number-iterator ≡ entry ∷ rest = c.in-Some.ensures.steps in
-    let region : Region = region_of (region_at entry) in
-    let is : c.whole-region.result ≡ region = c.whole-region.ensures c.in-Some._number.now in
-    let hit : overlaps c.args.range.start c.args.range.last c.whole-region.result ≡ true =
-    meets_both c.args.range.start c.args.range.last c.whole-region.result c.if-region-range.true c.if-range-region.true in
-    record {
-      lie = All-tail (λ (e : ℕ × Extent). Lies e.1) entry rest (subst (λ (es : List (ℕ × Extent)). All (λ (e : ℕ × Extent). Lies e.1) es) all c.loop-number.invariant.lie);
-      lowest = ap (λ o. lower_or o (first_region (map region_of (regions_of rest)) c.args.range.start c.args.range.last)) c.lower-lowest.ensures
-          ∙ next_hit c.args.range.start c.args.range.last c.loop-number.lowest c.whole-region.result (map region_of (regions_of rest)) hit
-          ∙ ap (λ (r : Region). lower_or c.loop-number.lowest (first_region (r ∷ map region_of (regions_of rest)) c.args.range.start c.args.range.last)) is
-          ∙ ap (λ (es : List (ℕ × Extent)). lower_or c.loop-number.lowest (first_region (map region_of (regions_of es)) c.args.range.start c.args.range.last)) (sym all)
-          ∙ c.loop-number.invariant.lowest;
-    }
+pub whole-region-requires : goal.whole-region-requires
+whole-region-requires c = lie_at c.loop-entry.entry-index c.args.extents.now _ c.loop-entry-test.true c.requires
 
-pub loop-number-preserved : goal.loop-number-preserved
-loop-number-preserved c =
-    let entry : ℕ × Extent = (c.in-Some._number.now, c.in-Some.extent.now) in
-    let rest : List (ℕ × Extent) = c.next.new.self in
-    let all : c.loop-number._number-iterator ≡ entry ∷ rest = c.in-Some.ensures.steps in
-    let region : Region = region_of (region_at entry) in
-    let is : c.whole-region.result ≡ region = c.whole-region.ensures c.in-Some._number.now in
-    let miss : overlaps c.args.range.start c.args.range.last c.whole-region.result ≡ false = elim c.else-region-range.branch [
-      | else-region-range-via-then-region-range+else-range-region w ↦ ends_before c.args.range.start c.args.range.last c.whole-region.result w.if-range-region.false
-      | else-region-range-via-else-region-range w ↦ begins_after c.args.range.start c.args.range.last c.whole-region.result w.if-region-range.false
-    ] in
-    record {
-      lie = All-tail (λ (e : ℕ × Extent). Lies e.1) entry rest (subst (λ (es : List (ℕ × Extent)). All (λ (e : ℕ × Extent). Lies e.1) es) all c.loop-number.invariant.lie);
-      lowest = next_miss c.args.range.start c.args.range.last c.loop-number.lowest c.whole-region.result (map region_of (regions_of rest)) miss
-          ∙ ap (λ (r : Region). lower_or c.loop-number.lowest (first_region (r ∷ map region_of (regions_of rest)) c.args.range.start c.args.range.last)) is
-          ∙ ap (λ (es : List (ℕ × Extent)). lower_or c.loop-number.lowest (first_region (map region_of (regions_of es)) c.args.range.start c.args.range.last)) (sym all)
-          ∙ c.loop-number.invariant.lowest;
-    }
+pub loop-entry-preserved : goal.loop-entry-preserved
+loop-entry-preserved c = elim c.if-region-range.branch [
+  | then-region-range+then-range-region w ↦
+      first_met c.args.range.start c.args.range.last c.loop-entry.entry-index c.loop-entry.lowest _ c.args.extents.now _ c.whole-region.result
+      c.loop-entry-test.true (c.whole-region.ensures 0)
+      (meets_both c.args.range.start c.args.range.last c.whole-region.result w.if-region-range.true w.if-range-region.true)
+      (w.lowest-is ∙ w.lower-lowest.ensures) ∙ c.loop-entry.invariant
+  | else-region-range w ↦
+      let miss : overlaps c.args.range.start c.args.range.last c.whole-region.result ≡ false = elim w.else-region-range.branch [
+        | else-region-range-via-then-region-range+else-range-region v ↦ ends_before c.args.range.start c.args.range.last c.whole-region.result v.if-range-region.false
+        | else-region-range-via-else-region-range v ↦ begins_after c.args.range.start c.args.range.last c.whole-region.result v.if-region-range.false
+      ] in
+      ap (λ (o : Option Region). lower_or o (first_of_regions c.args.range.start c.args.range.last (drop (c.loop-entry.entry-index + 1) c.args.extents.now))) w.lowest-is
+      ∙ first_missed c.args.range.start c.args.range.last c.loop-entry.entry-index c.loop-entry.lowest c.args.extents.now _ c.whole-region.result
+      c.loop-entry-test.true (c.whole-region.ensures 0) miss
+      ∙ c.loop-entry.invariant
+]
+
+pub returns : goal.returns
+returns c =
+    sym (first_past c.args.range.start c.args.range.last c.loop-entry.entry-index c.loop-entry.lowest c.args.extents.now c.loop-entry-test.false) ∙ c.loop-entry.invariant

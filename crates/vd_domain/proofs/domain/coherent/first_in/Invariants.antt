@@ -1,13 +1,9 @@
-use Rattle.std.proofs.Common.{◌≡◌, map}
-use Rattle.std.specs.List.{All}
-use Rattle.vd_model.specs.AreaTurns.{first_region, region_of}
-use Rattle.vd_domain.specs.Lists.{regions_of}
-use Rattle.vd_domain.specs.Lookup.{Lies, lower_or}
+use Rattle.std.proofs.Common.{◌≡◌, drop}
+use Rattle.vd_domain.specs.Lookup.{lower_or}
+use Rattle.vd_domain.proofs.Passed.{first_of_regions}
 use Rattle.vd_domain.proofs.domain.coherent.first_in.Given as goal
 
-abbrev pub invariant-loop-number : goal.invariant-loop-number
-invariant-loop-number l = record {
-  lie : All (λ e. Lies e.1) l._number-iterator;
-  lowest : lower_or l.lowest (first_region (map region_of (regions_of l._number-iterator)) l.fn.range.start l.fn.range.last)
-      ≡ first_region (map region_of (regions_of l.fn.extents.entries)) l.fn.range.start l.fn.range.last;
-}
+abbrev pub invariant-loop-entry : goal.invariant-loop-entry
+invariant-loop-entry l =
+    lower_or l.lowest (first_of_regions l.fn.range.start l.fn.range.last (drop l.entry-index l.fn.extents))
+    ≡ first_of_regions l.fn.range.start l.fn.range.last l.fn.extents

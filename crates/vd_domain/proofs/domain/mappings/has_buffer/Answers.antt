@@ -1,25 +1,14 @@
-use Rattle.std.proofs.Common.{◌≡◌, ℕ, List, ◌∷◌, ap, sym, ◌∙◌, true, false, ◌==◌, ◌||◌, arith}
-use Rattle.std.specs.List.{list_any}
-use Rattle.std.proofs.lemmas.Bool.Decides.{nat_tests}
-use Rattle.vd_model.specs.Acts.{Streaming}
-use Rattle.vd_domain.specs.declared.streaming.Bounced.{Bounced}
-use Rattle.vd_domain.specs.Lists.{mappings_of}
+use Rattle.std.proofs.Common.{sym, ◌∙◌}
+use Rattle.vd_domain.proofs.Passed.{any_later, any_here, any_past}
 use Rattle.vd_domain.proofs.domain.mappings.has_buffer.Goals as goal
 
-pub loop-number-preserved : goal.loop-number-preserved
-loop-number-preserved c =
-    let rest : List (ℕ × Bounced) = c.next.new.self in
-    let all : c.loop-number._number-iterator ≡ (c.in-Some._number.now, c.in-Some.mapping.now) ∷ rest = c.in-Some.ensures.steps in
-    let miss : (c.in-Some.mapping.now.want.buffer == c.args.buffer) ≡ false = grind (arith, nat_tests) in
-    sym (ap (λ b. b || list_any (λ (m : Streaming). m.want.buffer == c.args.buffer) (mappings_of rest)) miss)
-    ∙ ap (λ (es : List (ℕ × Bounced)). list_any (λ (m : Streaming). m.want.buffer == c.args.buffer) (mappings_of es)) (sym all)
-    ∙ c.loop-number.invariant
+pub loop-entry-preserved : goal.loop-entry-preserved
+loop-entry-preserved c =
+    any_later c.args.buffer c.loop-entry.entry-index c.args.mappings.now _ c.loop-entry-test.true c.if-entry-buffer.false ∙ c.loop-entry.invariant
 
-pub returns-then-mapping-buffer : goal.returns-then-mapping-buffer
-returns-then-mapping-buffer c =
-    let rest : List (ℕ × Bounced) = c.next.new.self in
-    let all : c.loop-number._number-iterator ≡ (c.in-Some._number.now, c.in-Some.mapping.now) ∷ rest = c.in-Some.ensures.steps in
-    let hit : (c.in-Some.mapping.now.want.buffer == c.args.buffer) ≡ true = grind (arith, nat_tests) in
-    sym (ap (λ b. b || list_any (λ (m : Streaming). m.want.buffer == c.args.buffer) (mappings_of rest)) hit)
-    ∙ ap (λ (es : List (ℕ × Bounced)). list_any (λ (m : Streaming). m.want.buffer == c.args.buffer) (mappings_of es)) (sym all)
-    ∙ c.loop-number.invariant
+pub returns-then-entry-buffer : goal.returns-then-entry-buffer
+returns-then-entry-buffer c =
+    sym (any_here c.args.buffer c.loop-entry.entry-index c.args.mappings.now _ c.loop-entry-test.true c.if-entry-buffer.true) ∙ c.loop-entry.invariant
+
+pub returns : goal.returns
+returns c = sym (any_past c.args.buffer c.loop-entry.entry-index c.args.mappings.now c.loop-entry-test.false) ∙ c.loop-entry.invariant
