@@ -1,5 +1,6 @@
 pub mod Cutting
 pub mod Numbers
+pub mod FewDigits
 pub mod Tables
 pub mod HexDigits
 pub mod Parts

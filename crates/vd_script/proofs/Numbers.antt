@@ -22,6 +22,12 @@ too_big radix n (d ∷ ds) r h =
 step : (radix n i : ℕ) (ds : List ℕ) → i < length ds → digit (get_or ds i 0) < radix → digits_from radix n (drop i ds) ≡ digits_from radix (n * radix + digit (get_or ds i 0)) (drop (i + 1) ds)
 step radix n i ds lt below = rw (add-one, drop-cons ds i 0) (grind (arith, common_steps))
 
+pub goes_on : (radix n i d : ℕ) (ds : List ℕ) (total : Option ℕ) → i < length ds → d ≡ digit (get_or ds i 0) → d < radix
+    → digits_from radix n (drop i ds) ≡ total → digits_from radix (n * radix + d) (drop (i + 1) ds) ≡ total
+goes_on radix n i d ds total lt is below so_far =
+    let digit_below : digit (get_or ds i 0) < radix = rw (← is) below in
+    ap (λ x. digits_from radix (n * radix + x) (drop (i + 1) ds)) is ∙ sym (step radix n i ds lt digit_below) ∙ so_far
+
 pub passes_end : (radix n i d : ℕ) (ds : List ℕ) (total : Option ℕ) → i < length ds → 1 ≤ radix → d ≡ digit (get_or ds i 0) → d < radix → (n * radix + d < 2 ^ 64 → ⊥)
     → digits_from radix n (drop i ds) ≡ total → None ≡ number_within 0 (2 ^ 64 - 1) total
 passes_end radix n i d ds total lt r is below big so_far =

@@ -7,6 +7,7 @@ ghost use Rattle.vd_model.specs.AreaLines.{area_form, area_text};
 ghost use Rattle.vd_model.specs.Spelling.{with_name};
 
 use crate::error::LineError;
+use crate::form::read_form;
 use crate::put::{begin, put_hex};
 use crate::words::Words;
 use std::alloc::AllocError;
@@ -21,69 +22,25 @@ pub fn area_step<'a>(
     ensures { Gives result (area_form word words.old) }
 {
     match word {
-        AreaWord::Lookup => {
-            let step = AreaStep::Lookup {
-                start: words.u64()?,
-                last: words.u64()?,
-            };
-            words.done(step)
-        }
-        AreaWord::IovaInfo => {
-            let step = AreaStep::IovaInfo {
-                start: words.u64()?,
-                last: words.u64()?,
-            };
-            words.done(step)
-        }
-        AreaWord::Area => {
-            let step = AreaStep::Area {
-                bytes: words.u64()?,
-            };
-            words.done(step)
-        }
-        AreaWord::AreaPut => {
-            let step = AreaStep::AreaPut {
-                offset: words.u64()?,
-                bytes: words.hex(scratch)?,
-            };
-            words.done(step)
-        }
-        AreaWord::AreaGet => {
-            let step = AreaStep::AreaGet {
-                offset: words.u64()?,
-                len: words.length()?,
-            };
-            words.done(step)
-        }
-        AreaWord::RegUmem => {
-            let step = AreaStep::RegUmem {
-                uaddr: words.u64()?,
-                iova: words.u64()?,
-                size: words.u64()?,
-            };
-            words.done(step)
-        }
-        AreaWord::DeregUmem => {
-            let step = AreaStep::DeregUmem {
-                iova: words.u64()?,
-                size: words.u64()?,
-            };
-            words.done(step)
-        }
-        AreaWord::Load => {
-            let step = AreaStep::Load {
-                addr: words.u64()?,
-                len: words.length()?,
-            };
-            words.done(step)
-        }
-        AreaWord::Store => {
-            let step = AreaStep::Store {
-                addr: words.u64()?,
-                bytes: words.hex(scratch)?,
-            };
-            words.done(step)
-        }
+        AreaWord::Lookup => read_form!(words => AreaStep::Lookup { start: u64(), last: u64() }),
+        AreaWord::IovaInfo => read_form!(words => AreaStep::IovaInfo { start: u64(), last: u64() }),
+        AreaWord::Area => read_form!(words => AreaStep::Area { bytes: u64() }),
+        AreaWord::AreaPut => read_form!(words => AreaStep::AreaPut {
+            offset: u64(), bytes: hex(scratch)
+        }),
+        AreaWord::AreaGet => read_form!(words => AreaStep::AreaGet {
+            offset: u64(), len: length()
+        }),
+        AreaWord::RegUmem => read_form!(words => AreaStep::RegUmem {
+            uaddr: u64(), iova: u64(), size: u64()
+        }),
+        AreaWord::DeregUmem => read_form!(words => AreaStep::DeregUmem {
+            iova: u64(), size: u64()
+        }),
+        AreaWord::Load => read_form!(words => AreaStep::Load { addr: u64(), len: length() }),
+        AreaWord::Store => read_form!(words => AreaStep::Store {
+            addr: u64(), bytes: hex(scratch)
+        }),
     }
 }
 

@@ -7,6 +7,7 @@ ghost use Rattle.vd_model.specs.BusLines.{bus_form, bus_text};
 ghost use Rattle.vd_model.specs.Spelling.{with_name};
 
 use crate::error::LineError;
+use crate::form::read_form;
 use crate::put::{begin, put_flag, put_on};
 use crate::words::Words;
 use std::alloc::AllocError;
@@ -20,90 +21,27 @@ pub fn bus_step(word: BusWord, words: &mut Words<'_>) -> Result<BusStep, LineErr
         BusWord::Attach => words.done(BusStep::Attach),
         BusWord::Detach => words.done(BusStep::Detach),
         BusWord::Offered => words.done(BusStep::Offered),
-        BusWord::SetFeatures => {
-            let step = BusStep::SetFeatures {
-                features: words.u64()?,
-            };
-            words.done(step)
-        }
+        BusWord::SetFeatures => read_form!(words => BusStep::SetFeatures { features: u64() }),
         BusWord::GetStatus => words.done(BusStep::GetStatus),
-        BusWord::SetStatus => {
-            let step = BusStep::SetStatus {
-                status: words.status()?,
-            };
-            words.done(step)
-        }
+        BusWord::SetStatus => read_form!(words => BusStep::SetStatus { status: status() }),
         BusWord::Reset => words.done(BusStep::Reset),
-        BusWord::VqNum => {
-            let step = BusStep::VqNum {
-                queue: words.u32()?,
-                num: words.u64()?,
-            };
-            words.done(step)
-        }
-        BusWord::VqAddr => {
-            let step = BusStep::VqAddr {
-                queue: words.u32()?,
-                desc: words.u64()?,
-                driver: words.u64()?,
-                device: words.u64()?,
-            };
-            words.done(step)
-        }
-        BusWord::VqReady => {
-            let step = BusStep::VqReady {
-                queue: words.u32()?,
-                flag: words.flag()?,
-            };
-            words.done(step)
-        }
-        BusWord::SetVqState => {
-            let step = BusStep::SetVqState {
-                queue: words.u32()?,
-                avail: words.u16()?,
-            };
-            words.done(step)
-        }
-        BusWord::GetVqState => {
-            let step = BusStep::GetVqState {
-                queue: words.u32()?,
-            };
-            words.done(step)
-        }
-        BusWord::Kick => {
-            let step = BusStep::Kick {
-                queue: words.u32()?,
-            };
-            words.done(step)
-        }
-        BusWord::Callback => {
-            let step = BusStep::Callback {
-                on: words.on()?,
-                flag: words.flag()?,
-            };
-            words.done(step)
-        }
-        BusWord::Irqs => {
-            let step = BusStep::Irqs { on: words.on()? };
-            words.done(step)
-        }
-        BusWord::GetConfig => {
-            let step = BusStep::GetConfig {
-                offset: words.u64()?,
-                len: words.length()?,
-            };
-            words.done(step)
-        }
-        BusWord::Timeout => {
-            let step = BusStep::Timeout {
-                seconds: words.u32()?,
-            };
-            words.done(step)
-        }
-        BusWord::Take => {
-            let step = BusStep::Take { id: words.u32()? };
-            words.done(step)
-        }
+        BusWord::VqNum => read_form!(words => BusStep::VqNum { queue: u32(), num: u64() }),
+        BusWord::VqAddr => read_form!(words => BusStep::VqAddr {
+            queue: u32(), desc: u64(), driver: u64(), device: u64()
+        }),
+        BusWord::VqReady => read_form!(words => BusStep::VqReady { queue: u32(), flag: flag() }),
+        BusWord::SetVqState => read_form!(words => BusStep::SetVqState {
+            queue: u32(), avail: u16()
+        }),
+        BusWord::GetVqState => read_form!(words => BusStep::GetVqState { queue: u32() }),
+        BusWord::Kick => read_form!(words => BusStep::Kick { queue: u32() }),
+        BusWord::Callback => read_form!(words => BusStep::Callback { on: on(), flag: flag() }),
+        BusWord::Irqs => read_form!(words => BusStep::Irqs { on: on() }),
+        BusWord::GetConfig => read_form!(words => BusStep::GetConfig {
+            offset: u64(), len: length()
+        }),
+        BusWord::Timeout => read_form!(words => BusStep::Timeout { seconds: u32() }),
+        BusWord::Take => read_form!(words => BusStep::Take { id: u32() }),
     }
 }
 

@@ -7,6 +7,7 @@ ghost use Rattle.vd_model.specs.DriverLines.{driver_form, driver_text};
 ghost use Rattle.vd_model.specs.Spelling.{with_name};
 
 use crate::error::LineError;
+use crate::form::read_form;
 use crate::put::{begin, put_dir, put_hex};
 use crate::words::Words;
 use std::alloc::AllocError;
@@ -21,93 +22,29 @@ pub fn driver_step<'a>(
     ensures { Gives result (driver_form word words.old) }
 {
     match word {
-        DriverWord::Buf => {
-            let step = DriverStep::Buf {
-                bytes: words.hex(scratch)?,
-            };
-            words.done(step)
-        }
-        DriverWord::Zeros => {
-            let step = DriverStep::Zeros {
-                len: words.number_in(1, u64::MAX)?,
-            };
-            words.done(step)
-        }
-        DriverWord::Free => {
-            let step = DriverStep::Free {
-                buffer: words.u64()?,
-            };
-            words.done(step)
-        }
-        DriverWord::Poke => {
-            let step = DriverStep::Poke {
-                buffer: words.u64()?,
-                offset: words.u64()?,
-                bytes: words.hex(scratch)?,
-            };
-            words.done(step)
-        }
-        DriverWord::Peek => {
-            let step = DriverStep::Peek {
-                buffer: words.u64()?,
-                offset: words.u64()?,
-                len: words.length()?,
-            };
-            words.done(step)
-        }
-        DriverWord::Map => {
-            let step = DriverStep::Map {
-                buffer: words.u64()?,
-                offset: words.u64()?,
-                len: words.u64()?,
-                dir: words.dir()?,
-            };
-            words.done(step)
-        }
-        DriverWord::Unmap => {
-            let step = DriverStep::Unmap {
-                mapping: words.u64()?,
-            };
-            words.done(step)
-        }
-        DriverWord::SyncDev => {
-            let step = DriverStep::SyncDev {
-                mapping: words.u64()?,
-            };
-            words.done(step)
-        }
-        DriverWord::SyncCpu => {
-            let step = DriverStep::SyncCpu {
-                mapping: words.u64()?,
-            };
-            words.done(step)
-        }
-        DriverWord::Coherent => {
-            let step = DriverStep::Coherent { len: words.u64()? };
-            words.done(step)
-        }
-        DriverWord::FreeCoherent => {
-            let step = DriverStep::FreeCoherent {
-                region: words.u64()?,
-            };
-            words.done(step)
-        }
-        DriverWord::Cput => {
-            let step = DriverStep::Cput {
-                region: words.u64()?,
-                offset: words.u64()?,
-                bytes: words.hex(scratch)?,
-            };
-            words.done(step)
-        }
-        DriverWord::Cget => {
-            let step = DriverStep::Cget {
-                region: words.u64()?,
-                offset: words.u64()?,
-                len: words.length()?,
-            };
-            words.done(step)
-        }
+        DriverWord::Buf => read_form!(words => DriverStep::Buf { bytes: hex(scratch) }),
+        DriverWord::Zeros => read_form!(words => DriverStep::Zeros { len: number_in(1, u64::MAX) }),
+        DriverWord::Free => read_form!(words => DriverStep::Free { buffer: u64() }),
+        DriverWord::Poke => read_form!(words => DriverStep::Poke {
+            buffer: u64(), offset: u64(), bytes: hex(scratch)
+        }),
+        DriverWord::Peek => read_form!(words => DriverStep::Peek {
+            buffer: u64(), offset: u64(), len: length()
+        }),
+        DriverWord::Map => read_form!(words => DriverStep::Map {
+            buffer: u64(), offset: u64(), len: u64(), dir: dir()
+        }),
+        DriverWord::Unmap => read_form!(words => DriverStep::Unmap { mapping: u64() }),
+        DriverWord::SyncDev => read_form!(words => DriverStep::SyncDev { mapping: u64() }),
+        DriverWord::SyncCpu => read_form!(words => DriverStep::SyncCpu { mapping: u64() }),
+        DriverWord::Coherent => read_form!(words => DriverStep::Coherent { len: u64() }),
+        DriverWord::FreeCoherent => read_form!(words => DriverStep::FreeCoherent { region: u64() }),
+        DriverWord::Cput => read_form!(words => DriverStep::Cput {
+            region: u64(), offset: u64(), bytes: hex(scratch)
+        }),
+        DriverWord::Cget => read_form!(words => DriverStep::Cget {
+            region: u64(), offset: u64(), len: length()
+        }),
     }
 }
 

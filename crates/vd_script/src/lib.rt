@@ -1,9 +1,8 @@
-//! The lines of a script, both ways: a line is read as a step, a step and an answer are written.
+//! The lines of a script, both ways: a line is read as a step, and a step is written.
 //!
-//! It stands on `vd_model`, which has the steps, the answers and the grammar as definitions.
-//! `read_line` accepts exactly the grammar: a step, nothing for an empty line and a comment, and
-//! `Bad` for every other line. What `print_step` writes of a step that was read is read as that
-//! step again. `print_answer` writes exactly the reply line.
+//! It stands on `vd_model`, which has the steps and the grammar as definitions. `read_line` accepts
+//! exactly the grammar: a step, nothing for an empty line and a comment, and `Bad` for every other
+//! line. What `print_step` writes of a step that was read is read as that step again.
 #![tactic(auto)]
 
 mod area;
@@ -13,6 +12,7 @@ mod decode;
 mod digits;
 mod driver;
 mod error;
+mod form;
 mod keyword;
 mod node;
 mod number;
@@ -20,13 +20,11 @@ mod print;
 mod put;
 mod queue;
 mod read;
-mod reply;
 mod words;
 
 pub use error::LineError;
 pub use print::print_step;
 pub use read::read_line;
-pub use reply::print_answer;
 
 #[cfg(test)]
 mod tests;

@@ -7,6 +7,7 @@ ghost use Rattle.vd_model.specs.NodeLines.{node_form, node_text};
 ghost use Rattle.vd_model.specs.Spelling.{with_name};
 
 use crate::error::LineError;
+use crate::form::read_form;
 use crate::put::{begin, put_flag, put_hex, put_optional_hex};
 use crate::words::Words;
 use std::alloc::AllocError;
@@ -24,72 +25,24 @@ pub fn node_step<'a>(
         NodeWord::Open => words.done(NodeStep::Open),
         NodeWord::Close => words.done(NodeStep::Close),
         NodeWord::Features => words.done(NodeStep::Features),
-        NodeWord::SetConfig => {
-            let step = NodeStep::SetConfig {
-                offset: words.u64()?,
-                bytes: words.hex(scratch)?,
-            };
-            words.done(step)
-        }
+        NodeWord::SetConfig => read_form!(words => NodeStep::SetConfig {
+            offset: u64(), bytes: hex(scratch)
+        }),
         NodeWord::ConfigIrq => words.done(NodeStep::ConfigIrq),
-        NodeWord::VqSetup => {
-            let step = NodeStep::VqSetup {
-                queue: words.u32()?,
-                max: words.u16()?,
-            };
-            words.done(step)
-        }
-        NodeWord::VqInfo => {
-            let step = NodeStep::VqInfo {
-                queue: words.u32()?,
-            };
-            words.done(step)
-        }
-        NodeWord::KickFd => {
-            let step = NodeStep::KickFd {
-                queue: words.u32()?,
-                flag: words.flag()?,
-            };
-            words.done(step)
-        }
-        NodeWord::Kicks => {
-            let step = NodeStep::Kicks {
-                queue: words.u32()?,
-            };
-            words.done(step)
-        }
-        NodeWord::Irq => {
-            let step = NodeStep::Irq {
-                queue: words.u32()?,
-            };
-            words.done(step)
-        }
+        NodeWord::VqSetup => read_form!(words => NodeStep::VqSetup { queue: u32(), max: u16() }),
+        NodeWord::VqInfo => read_form!(words => NodeStep::VqInfo { queue: u32() }),
+        NodeWord::KickFd => read_form!(words => NodeStep::KickFd { queue: u32(), flag: flag() }),
+        NodeWord::Kicks => read_form!(words => NodeStep::Kicks { queue: u32() }),
+        NodeWord::Irq => read_form!(words => NodeStep::Irq { queue: u32() }),
         NodeWord::Recv => words.done(NodeStep::Recv),
-        NodeWord::Answer => {
-            let step = NodeStep::Answer {
-                id: words.u32()?,
-                reply: words.u32()?,
-                avail: words.u16()?,
-            };
-            words.done(step)
-        }
-        NodeWord::Read => {
-            let step = NodeStep::Read { len: words.u32()? };
-            words.done(step)
-        }
-        NodeWord::Write => {
-            let step = NodeStep::Write {
-                bytes: words.hex(scratch)?,
-            };
-            words.done(step)
-        }
-        NodeWord::Ioctl => {
-            let step = NodeStep::Ioctl {
-                number: words.u64()?,
-                bytes: words.optional_hex(scratch)?,
-            };
-            words.done(step)
-        }
+        NodeWord::Answer => read_form!(words => NodeStep::Answer {
+            id: u32(), reply: u32(), avail: u16()
+        }),
+        NodeWord::Read => read_form!(words => NodeStep::Read { len: u32() }),
+        NodeWord::Write => read_form!(words => NodeStep::Write { bytes: hex(scratch) }),
+        NodeWord::Ioctl => read_form!(words => NodeStep::Ioctl {
+            number: u64(), bytes: optional_hex(scratch)
+        }),
     }
 }
 

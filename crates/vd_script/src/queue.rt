@@ -9,6 +9,7 @@ ghost use Rattle.vd_model.specs.Forms.{part_field, parts_form, submit_form};
 ghost use Rattle.vd_model.specs.declared.step.QueueStep.TheVariants.{Add, Submit};
 
 use crate::error::LineError;
+use crate::form::read_form;
 use crate::put::{begin, put_parts, put_submit_form};
 use crate::words::Words;
 use std::alloc::{AllocError, Global};
@@ -47,29 +48,17 @@ fn submit_form(words: &mut Words<'_>) -> Result<SubmitForm, LineError>
 {
     let word = words.word()?;
     if word == b"read".as_slice() {
-        let form = SubmitForm::Read {
-            sector: words.u64()?,
-            buffer: words.u64()?,
-            offset: words.u64()?,
-            len: words.u64()?,
-        };
-        words.done(form)
+        read_form!(words => SubmitForm::Read {
+            sector: u64(), buffer: u64(), offset: u64(), len: u64()
+        })
     } else if word == b"write".as_slice() {
-        let form = SubmitForm::Write {
-            sector: words.u64()?,
-            buffer: words.u64()?,
-            offset: words.u64()?,
-            len: words.u64()?,
-        };
-        words.done(form)
+        read_form!(words => SubmitForm::Write {
+            sector: u64(), buffer: u64(), offset: u64(), len: u64()
+        })
     } else if word == b"flush".as_slice() {
         words.done(SubmitForm::Flush)
     } else if word == b"id".as_slice() {
-        let form = SubmitForm::Id {
-            buffer: words.u64()?,
-            offset: words.u64()?,
-        };
-        words.done(form)
+        read_form!(words => SubmitForm::Id { buffer: u64(), offset: u64() })
     } else {
         Err(LineError::Bad)
     }
@@ -84,66 +73,22 @@ pub fn queue_step(
     ensures { Gives result (queue_form word words.old) }
 {
     match word {
-        QueueWord::Walk => {
-            let step = QueueStep::Walk {
-                queue: words.u32()?,
-                head: words.u16()?,
-            };
-            words.done(step)
-        }
-        QueueWord::Fetch => {
-            let step = QueueStep::Fetch {
-                queue: words.u32()?,
-            };
-            words.done(step)
-        }
-        QueueWord::Execute => {
-            let step = QueueStep::Execute {
-                queue: words.u32()?,
-            };
-            words.done(step)
-        }
-        QueueWord::Finish => {
-            let step = QueueStep::Finish {
-                queue: words.u32()?,
-            };
-            words.done(step)
-        }
-        QueueWord::Ring => {
-            let step = QueueStep::Ring {
-                queue: words.u32()?,
-                size: words.u64()?,
-            };
-            words.done(step)
-        }
-        QueueWord::Unring => {
-            let step = QueueStep::Unring {
-                queue: words.u32()?,
-            };
-            words.done(step)
-        }
-        QueueWord::Add => {
-            let queue = words.u32()?;
-            let parts = parts(alloc, words)?;
-            Ok(QueueStep::Add { queue, parts })
-        }
-        QueueWord::Publish => {
-            let step = QueueStep::Publish {
-                queue: words.u32()?,
-            };
-            words.done(step)
-        }
-        QueueWord::Submit => {
-            let queue = words.u32()?;
-            let form = submit_form(words)?;
-            Ok(QueueStep::Submit { queue, form })
-        }
-        QueueWord::Poll => {
-            let step = QueueStep::Poll {
-                queue: words.u32()?,
-            };
-            words.done(step)
-        }
+        QueueWord::Walk => read_form!(words => QueueStep::Walk { queue: u32(), head: u16() }),
+        QueueWord::Fetch => read_form!(words => QueueStep::Fetch { queue: u32() }),
+        QueueWord::Execute => read_form!(words => QueueStep::Execute { queue: u32() }),
+        QueueWord::Finish => read_form!(words => QueueStep::Finish { queue: u32() }),
+        QueueWord::Ring => read_form!(words => QueueStep::Ring { queue: u32(), size: u64() }),
+        QueueWord::Unring => read_form!(words => QueueStep::Unring { queue: u32() }),
+        QueueWord::Add => Ok(QueueStep::Add {
+            queue: words.u32()?,
+            parts: parts(alloc, words)?,
+        }),
+        QueueWord::Publish => read_form!(words => QueueStep::Publish { queue: u32() }),
+        QueueWord::Submit => Ok(QueueStep::Submit {
+            queue: words.u32()?,
+            form: submit_form(words)?,
+        }),
+        QueueWord::Poll => read_form!(words => QueueStep::Poll { queue: u32() }),
     }
 }
 

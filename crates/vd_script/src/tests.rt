@@ -2,7 +2,7 @@
 
 use super::*;
 use std::test::Fail;
-use vd_model::{Answer, Bytes, ChainFault, ChainKind, Errno, Item, Items, Tag};
+use vd_model::Bytes;
 
 /// The line that is written of the step that this line says.
 fn rewritten(rt: &HostRuntime, line: &[u8]) -> Result<Option<Bytes>, LineError> {
@@ -99,54 +99,4 @@ fn silent_lines(rt: HostRuntime) {
     for line in [b"".as_slice(), b"# map".as_slice()] {
         assert!(rt; matches!(read_line(rt.alloc(), &mut scratch, line), Ok(None)));
     }
-}
-
-/// The fields of `ok 0 iova 0x3fff000 616263`.
-fn fields(rt: &HostRuntime) -> Result<Items, Fail> {
-    let mut bytes = Bytes::new(rt.alloc());
-    bytes.extend_from_slice(b"abc")?;
-    let mut items = Items::new(rt.alloc());
-    items.push(Item::Number(0))?;
-    items.push(Item::Word(Tag::Iova))?;
-    items.push(Item::Address(0x3fff000))?;
-    items.push(Item::Text(bytes))?;
-    Ok(items)
-}
-
-#[test]
-fn replies(rt: HostRuntime) -> Result<(), Fail> {
-    let fault = ChainFault {
-        kind: ChainKind::Order,
-        table: 0,
-        index: 1,
-    };
-    let rows: [(Answer, &[u8]); 9] = [
-        (Answer::Done(Items::new(rt.alloc())), b"ok\n"),
-        (Answer::Done(fields(&rt)?), b"ok 0 iova 0x3fff000 616263\n"),
-        (Answer::Err(Errno::Inval), b"err 22\n"),
-        (Answer::Bus { at: 0 }, b"bus 0x0\n"),
-        (Answer::Chain(fault), b"chain order 0 1\n"),
-        (
-            Answer::UsedAhead {
-                used: 3,
-                published: 1,
-            },
-            b"used ahead 3 1\n",
-        ),
-        (Answer::BadId { id: 9 }, b"used bad 9\n"),
-        (Answer::Pending, b"pending\n"),
-        (
-            Answer::FailedTimeout {
-                deadline: 30,
-                now: 30,
-            },
-            b"failed timeout 30 30\n",
-        ),
-    ];
-    for (answer, want) in rows {
-        let mut text = Bytes::new(rt.alloc());
-        print_answer(&answer, &mut text)?;
-        assert_eq!(rt; text.as_slice(), want);
-    }
-    Ok(())
 }
