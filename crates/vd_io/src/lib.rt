@@ -8,11 +8,13 @@
 #![tactic(auto)]
 
 mod faults;
+mod file;
 mod gate;
 mod image;
 mod sink;
 mod source;
 
+pub use file::{FileImage, RandomAccess};
 pub use gate::{Gate, OpenGate};
 pub use image::{Image, MemImage};
 pub use sink::{MemSink, Sink, StdSink};
@@ -26,6 +28,7 @@ pub struct Failed;
 mod tests {
     use super::*;
     use std::alloc::{AllocError, Global};
+    use std::fs::{self, OpenOptions};
     use std::test::Fail;
     use vd_num::{Bytes, Lines};
 
@@ -80,6 +83,30 @@ mod tests {
         assert_eq!(rt; sink.push(b"abcd"), Ok(3));
         assert_eq!(rt; sink.push(b"d"), Err(Failed));
         OpenGate.pass(0, 0);
+        Ok(())
+    }
+
+    #[test]
+    fn file_keeps_sectors(rt: HostRuntime) -> Result<(), Fail> {
+        const PATH: &str = "vd_io_test.image";
+        fs::write(&rt, PATH, [7u8; 1200].as_slice())?;
+        let file = OpenOptions::new().read(true).write(true).open(&rt, PATH)?;
+        let mut image = FileImage::new(file)?;
+        let mut piece = [9u8; 512];
+        assert_eq!(rt; image.sectors(), 2);
+        assert_eq!(rt; image.write_at(1, &[1u8; 512]), Ok(()));
+        assert_eq!(rt; image.flush(), Ok(()));
+        assert_eq!(rt; image.read_at(1, &mut piece), Ok(()));
+        assert_eq!(rt; (piece[0], piece[511]), (1, 1));
+        let bytes = fs::read(&rt, PATH)?;
+        assert_eq!(rt; bytes.len(), 1200);
+        assert_eq!(rt;
+            (bytes[511], bytes[512], bytes[1023], bytes[1024]),
+            (7, 1, 1, 7)
+        );
+        fs::write(&rt, PATH, b"".as_slice())?;
+        assert_eq!(rt; image.read_at(1, &mut piece), Err(Failed));
+        fs::remove_file(&rt, PATH)?;
         Ok(())
     }
 }

@@ -1,11 +1,11 @@
 -- Numbers out of range.
-use Rattle.std.proofs.Common.{◌≡◌, ℕ, zero, suc, ◌+◌, ◌-◌, ◌*◌, ◌<◌, ◌≤◌, Bool, true, false, refl, ap, ◌∙◌, sym, arith, cond, nat_le, ◌&&◌, Option, None, Some, List, [], ◌∷◌, length, drop, take, get_or, length-drop, subst, map}
+use Rattle.std.proofs.Common.{◌≡◌, ℕ, suc, ◌+◌, ◌-◌, ◌*◌, ◌<◌, ◌≤◌, Bool, true, false, refl, ap, ◌∙◌, sym, arith, cond, nat_le, ◌&&◌, None, Some, List, [], ◌∷◌, length, drop, take, get_or, length-drop, subst, map}
 use Rattle.std.proofs.Math.Seq.{drop-cons}
 use Rattle.std.proofs.lemmas.Bool.Decides.{nat_tests}
 use Rattle.std.proofs.Math.Seq.{take-length}
 use Rattle.std.specs.Option.{option_and_then}
 use Rattle.vd_options.specs.declared.words.Chosen.{Chosen}
-use Rattle.vd_options.specs.Words.{decimal_from, between, with_pair, with_pairs}
+use Rattle.vd_options.specs.Words.{decimal_from, between, with_pair, with_pairs, path_in}
 
 -- digits only make a number greater
 pub digits_past : (n hi : ℕ) (bytes : List ℕ) → hi < n → between 0 hi (decimal_from n bytes) ≡ None
@@ -36,6 +36,18 @@ pairs_next bytes_of chosen more [] flag value two f v e = absurd (omega arith)
 pairs_next bytes_of chosen more (a ∷ []) flag value two f v e = absurd (omega arith)
 pairs_next bytes_of chosen more (a ∷ b ∷ rest) flag value two f v e =
     ap (option_and_then (λ m. with_pairs m (map bytes_of rest))) (ap (λ w. with_pair chosen (bytes_of w) (bytes_of b)) (sym f) ∙ ap (λ w. with_pair chosen (bytes_of flag) (bytes_of w)) (sym v) ∙ e)
+
+-- a word without its pair
+pub pairs_odd : {X : Type 0} (bytes_of : X → List ℕ) (chosen : Chosen) (rest : List X) → 0 < length rest → length rest < 2 → with_pairs chosen (map bytes_of rest) ≡ None
+pairs_odd bytes_of chosen [] some few = absurd (omega arith)
+pairs_odd bytes_of chosen (a ∷ []) some few = refl
+pairs_odd bytes_of chosen (a ∷ b ∷ rest) some few = absurd (omega arith)
+
+-- no path
+pub path_nowhere : {X : Type 0} (bytes_of : X → List ℕ) (rest : List X) → length rest < 2 → path_in (map bytes_of rest) ≡ None
+path_nowhere bytes_of [] few = refl
+path_nowhere bytes_of (a ∷ []) few = refl
+path_nowhere bytes_of (a ∷ b ∷ rest) few = absurd (omega arith)
 
 -- all that follows
 pub rest_of : {X : Type 0} (n : ℕ) (xs : List X) → take (length xs - n) (drop n xs) ≡ drop n xs

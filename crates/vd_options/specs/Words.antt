@@ -1,5 +1,5 @@
 -- The words of a run, and the options that they ask for.
-use Rattle.std.specs.Prelude.{◌≡◌, ◌<◌, ◌≤◌, ℕ, ◌+◌, ◌-◌, ◌*◌, ◌/◌, ◌%◌, List, [], ◌∷◌, codes, Bool, ◌==◌, nat_le, nat_lt, ◌&&◌, if◌then◌else◌, Option, Some, None, is_some, unwrap_or}
+use Rattle.std.specs.Prelude.{◌≡◌, ◌<◌, ◌≤◌, ℕ, ◌+◌, ◌-◌, ◌*◌, ◌/◌, ◌%◌, List, [], ◌∷◌, codes, length, Bool, true, false, ◌==◌, nat_le, nat_lt, ◌&&◌, ◌||◌, if◌then◌else◌, Option, Some, None, is_some, unwrap_or}
 use Rattle.std.specs.Option.{option_map, option_and_then}
 use Rattle.std.specs.Str.{bytes_eq}
 use Rattle.vd_options.specs.declared.words.Chosen.{Chosen}
@@ -32,22 +32,34 @@ abbrev pub slots_of : Page → ℕ
 slots_of Small = 1
 slots_of Large = 16
 
--- what was chosen, with a page, with slots of bounce memory or with slots of I/O memory, unless they were chosen before
+-- the disk was chosen: its sectors in memory, or its image in a file
+abbrev pub has_disk : Chosen → Bool
+has_disk chosen = is_some chosen.sectors || chosen.image
+
+-- what was chosen, with a page, with slots of bounce memory, with slots of I/O memory, or with a disk, unless they were chosen before
 abbrev pub with_page : Chosen → Option Page → Option Chosen
-with_page chosen page = if is_some chosen.page then None else option_map (λ p. record { page = Some p; bounce = chosen.bounce; iova = chosen.iova }) page
+with_page chosen page = if is_some chosen.page then None else option_map (λ p. record chosen { page = Some p }) page
 
 abbrev pub with_bounce : Chosen → Option ℕ → Option Chosen
-with_bounce chosen slots = if is_some chosen.bounce then None else option_map (λ n. record { page = chosen.page; bounce = Some n; iova = chosen.iova }) slots
+with_bounce chosen slots = if is_some chosen.bounce then None else option_map (λ n. record chosen { bounce = Some n }) slots
 
 abbrev pub with_iova : Chosen → Option ℕ → Option Chosen
-with_iova chosen slots = if is_some chosen.iova then None else option_map (λ n. record { page = chosen.page; bounce = chosen.bounce; iova = Some n }) slots
+with_iova chosen slots = if is_some chosen.iova then None else option_map (λ n. record chosen { iova = Some n }) slots
+
+abbrev pub with_sectors : Chosen → Option ℕ → Option Chosen
+with_sectors chosen sectors = if has_disk chosen then None else option_map (λ n. record chosen { sectors = Some n }) sectors
+
+abbrev pub with_image : Chosen → List ℕ → Option Chosen
+with_image chosen path = if has_disk chosen || (length path == 0) then None else Some (record chosen { image = true })
 
 -- what was chosen, with one pair of words more
 abbrev pub with_pair : Chosen → List ℕ → List ℕ → Option Chosen
 with_pair chosen flag value =
     if bytes_eq flag (codes "--page") then with_page chosen (page_of value)
     else (if bytes_eq flag (codes "--bounce-pages") then with_bounce chosen (between 2 16384 (decimal_of value))
-    else (if bytes_eq flag (codes "--iova-pages") then with_iova chosen (between 0 65536 (decimal_of value)) else None))
+    else (if bytes_eq flag (codes "--iova-pages") then with_iova chosen (between 0 65536 (decimal_of value))
+    else (if bytes_eq flag (codes "--sectors") then with_sectors chosen (between 0 131072 (decimal_of value))
+    else (if bytes_eq flag (codes "--image") then with_image chosen value else None))))
 
 -- what is chosen by pairs of words
 abbrev pub with_pairs : Chosen → List (List ℕ) → Option Chosen
@@ -55,33 +67,50 @@ with_pairs chosen [] = Some chosen
 with_pairs chosen (flag ∷ []) = None
 with_pairs chosen (flag ∷ value ∷ rest) = option_and_then (λ more. with_pairs more rest) (with_pair chosen flag value)
 
--- the slots of bounce memory, of I/O memory and of a page
+-- the slots of bounce memory, of I/O memory and of a page, and the sectors of a disk in memory
 pub record Sizes : Type 0 where
   pub bounce : ℕ
   pub iova : ℕ
   pub per_page : ℕ
+  pub sectors : ℕ
 
 -- whether sizes are whole pages of bounce memory, two at least, and more I/O memory, at most 65,536 slots
 abbrev pub are_fit : Sizes → Bool
 are_fit s = nat_le (2 * s.per_page) s.bounce && (s.bounce % s.per_page == 0) && nat_lt s.bounce s.iova && nat_le s.iova 65536
 
--- what was chosen, else pages of one slot, 16,384 slots and 32,768 slots
+-- what was chosen, else pages of one slot, 16,384 slots, 32,768 slots and 2,048 sectors
 abbrev pub chosen_sizes : Chosen → Sizes
-chosen_sizes chosen = record { bounce = unwrap_or chosen.bounce 16384; iova = unwrap_or chosen.iova 32768; per_page = slots_of (unwrap_or chosen.page Small) }
+chosen_sizes chosen = record {
+  bounce = unwrap_or chosen.bounce 16384;
+  iova = unwrap_or chosen.iova 32768;
+  per_page = slots_of (unwrap_or chosen.page Small);
+  sectors = unwrap_or chosen.sectors 2048;
+}
 
 abbrev pub sizes_of : Chosen → Option Sizes
 sizes_of chosen = if are_fit (chosen_sizes chosen) then Some (chosen_sizes chosen) else None
 
 -- nothing was chosen yet
 abbrev pub nothing_chosen : Chosen
-nothing_chosen = record { page = None; bounce = None; iova = None }
+nothing_chosen = record { page = None; bounce = None; iova = None; sectors = None; image = false }
 
 -- the sizes that the words of a run ask for: `run` and then pairs, in any order, each at most once
 abbrev pub asked_sizes : List (List ℕ) → Option Sizes
 asked_sizes [] = None
 asked_sizes (first ∷ rest) = if bytes_eq first (codes "run") then option_and_then sizes_of (with_pairs nothing_chosen rest) else None
 
--- sizes that a device can have
+-- the path in pairs of words, if one names it
+abbrev pub path_in : List (List ℕ) → Option (List ℕ)
+path_in [] = None
+path_in (flag ∷ []) = None
+path_in (flag ∷ value ∷ rest) = if bytes_eq flag (codes "--image") then Some value else path_in rest
+
+-- the path of the image that the words of a run ask for
+abbrev pub asked_image : List (List ℕ) → Option (List ℕ)
+asked_image [] = None
+asked_image (first ∷ rest) = path_in rest
+
+-- sizes that a device and a disk can have
 pub record AreFit (s : Sizes) : Type 0 where
   pub some : 0 < s.per_page
   pub few : s.per_page ≤ 16
@@ -92,11 +121,14 @@ pub record AreFit (s : Sizes) : Type 0 where
 
 -- the sizes in options, whose page has its size in bytes
 abbrev pub sizes_in : Options → Sizes
-sizes_in o = record { bounce = o.bounce_pages; iova = o.iova_pages; per_page = o.page / 4096 }
+sizes_in o = record { bounce = o.bounce_pages; iova = o.iova_pages; per_page = o.page / 4096; sectors = o.sectors }
 
--- the options have these sizes, and what is chosen where no word says otherwise
-pub record IsOptions (o : Options) (sizes : Option Sizes) : Type 0 where
+-- the options have these sizes
+pub record AreNumbers (o : Options) (sizes : Option Sizes) : Type 0 where
   pub asked : sizes ≡ Some (sizes_in o)
   pub fit : AreFit (sizes_in o)
-  pub sectors : o.sectors ≡ 2048
-  pub image : o.image ≡ None
+
+-- the options have these sizes, and this path of an image
+pub record IsOptions (o : Options) (sizes : Option Sizes) (path : Option (List ℕ)) : Type 0 where
+  pub numbers : AreNumbers o sizes
+  pub image : o.image ≡ path

@@ -1,11 +1,12 @@
 //! The options of a run, and the words that ask for them.
 //!
 //! The program stands on it. `read_words` gives the options that the words of a run ask for, by the
-//! definition of `specs/`, and refuses exactly the words of any other form.
+//! definition of `specs/`, and refuses exactly the words of any other form. `read_numbers` gives them
+//! without the path of an image, and takes no memory.
 #![tactic(auto)]
 
 mod options;
 mod words;
 
 pub use options::Options;
-pub use words::{WordsError, read_words};
+pub use words::{WordsError, read_numbers, read_words};

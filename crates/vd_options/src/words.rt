@@ -1,11 +1,12 @@
 //! The words of a run.
 
-ghost use Rattle.std.specs.Prelude.{◌≡◌, ◌≤◌, ◌^◌, MatchResult, MatchOption, None, map, string_bytes};
-ghost use Rattle.vd_options.specs.Words.{decimal_from, decimal_of, between, page_of, slots_of, with_page, with_bounce, with_iova, with_pair, with_pairs, nothing_chosen, sizes_of, asked_sizes, IsOptions};
+ghost use Rattle.std.specs.Prelude.{◌≡◌, ◌≤◌, ◌^◌, ◌↔◌, MatchResult, MatchOption, IfOk, None, map, string_bytes};
+ghost use Rattle.vd_options.specs.Words.{decimal_from, decimal_of, between, page_of, slots_of, with_page, with_bounce, with_iova, with_sectors, with_image, with_pair, with_pairs, nothing_chosen, sizes_of, path_in, asked_sizes, asked_image, AreNumbers, IsOptions};
 
 use crate::options::Options;
-use std::alloc::Global;
+use std::alloc::{AllocError, Global};
 use thiserror::Error;
+use vd_num::Name;
 
 /// Why words give no options.
 #[derive(Clone, Copy, Debug, PartialEq, Eq, Error)]
@@ -41,11 +42,13 @@ pub struct Chosen {
     pub page: Option<Page>,
     pub bounce: Option<u32>,
     pub iova: Option<u32>,
+    pub sectors: Option<u32>,
+    pub image: bool,
 }
 
 /// The number of decimal digits, if it is at most `hi`.
 fn digits(text: &[u8], hi: u32) -> Option<u32>
-    requires { hi ≤ 2 ^ 16 }
+    requires { hi ≤ 2 ^ 17 }
     ensures { result ≡ between 0 hi (decimal_from 0 text.now) }
 {
     let mut n = 0;
@@ -63,7 +66,7 @@ fn digits(text: &[u8], hi: u32) -> Option<u32>
 
 /// The decimal number without leading zeros, if it is from `lo` to `hi`.
 fn number(text: &[u8], lo: u32, hi: u32) -> Option<u32>
-    requires { hi ≤ 2 ^ 16 }
+    requires { hi ≤ 2 ^ 17 }
     ensures { result ≡ between lo hi (decimal_of text.now) }
 {
     match text {
@@ -98,6 +101,10 @@ fn add_pair(chosen: &Chosen, flag: &[u8], value: &[u8]) -> Option<Chosen>
         add_bounce(chosen, number(value, 2, 16384))
     } else if flag == b"--iova-pages".as_slice() {
         add_iova(chosen, number(value, 0, 65536))
+    } else if flag == b"--sectors".as_slice() {
+        add_sectors(chosen, number(value, 0, 131_072))
+    } else if flag == b"--image".as_slice() {
+        add_image(chosen, value)
     } else {
         None
     }
@@ -109,8 +116,7 @@ fn add_page(chosen: &Chosen, page: Option<Page>) -> Option<Chosen>
     match (chosen.page, page) {
         (None, Some(page)) => Some(Chosen {
             page: Some(page),
-            bounce: chosen.bounce,
-            iova: chosen.iova,
+            ..*chosen
         }),
         _ => None,
     }
@@ -121,9 +127,8 @@ fn add_bounce(chosen: &Chosen, slots: Option<u32>) -> Option<Chosen>
 {
     match (chosen.bounce, slots) {
         (None, Some(n)) => Some(Chosen {
-            page: chosen.page,
             bounce: Some(n),
-            iova: chosen.iova,
+            ..*chosen
         }),
         _ => None,
     }
@@ -134,12 +139,35 @@ fn add_iova(chosen: &Chosen, slots: Option<u32>) -> Option<Chosen>
 {
     match (chosen.iova, slots) {
         (None, Some(n)) => Some(Chosen {
-            page: chosen.page,
-            bounce: chosen.bounce,
             iova: Some(n),
+            ..*chosen
         }),
         _ => None,
     }
+}
+
+fn add_sectors(chosen: &Chosen, sectors: Option<u32>) -> Option<Chosen>
+    ensures { result ≡ with_sectors chosen.now sectors }
+{
+    match (chosen.sectors, chosen.image, sectors) {
+        (None, false, Some(n)) => Some(Chosen {
+            sectors: Some(n),
+            ..*chosen
+        }),
+        _ => None,
+    }
+}
+
+fn add_image(chosen: &Chosen, path: &[u8]) -> Option<Chosen>
+    ensures { result ≡ with_image chosen.now path.now }
+{
+    if chosen.sectors.is_some() || chosen.image || path.is_empty() {
+        return None;
+    }
+    Some(Chosen {
+        image: true,
+        ..*chosen
+    })
 }
 
 /// What pairs of words choose.
@@ -150,6 +178,8 @@ fn read_pairs(words: &[String]) -> Option<Chosen>
         page: None,
         bounce: None,
         iova: None,
+        sectors: None,
+        image: false,
     };
     let mut rest = words;
     while !rest.is_empty() {
@@ -165,10 +195,25 @@ fn read_pairs(words: &[String]) -> Option<Chosen>
     Some(chosen)
 }
 
-/// The options of what was chosen, if bounce memory has whole pages, two at least, and there is more
-/// I/O memory.
-fn options_of(chosen: &Chosen) -> Option<Options>
-    ensures { MatchOption result (sizes_of chosen.now ≡ None) (λ o. IsOptions o (sizes_of chosen.now)) }
+/// The path in pairs of words, if one names it.
+fn read_path(alloc: Global, words: &[String]) -> Result<Option<Name>, AllocError>
+    ensures { IfOk result (λ path. path ≡ path_in (map string_bytes words.now)) }
+{
+    let mut rest = words;
+    while rest.len() >= 2 {
+        if rest[0].as_bytes() == b"--image".as_slice() {
+            let path = rest[1].as_bytes().to_vec(alloc)?;
+            return Ok(Some(Name::from_vec(path)));
+        }
+        rest = &rest[2..];
+    }
+    Ok(None)
+}
+
+/// The options of what was chosen, without a path, if bounce memory has whole pages, two at least,
+/// and there is more I/O memory.
+fn numbers_of(chosen: &Chosen) -> Option<Options>
+    ensures { MatchOption result (sizes_of chosen.now ≡ None) (λ o. AreNumbers o (sizes_of chosen.now)) }
 {
     let bounce_pages = chosen.bounce.unwrap_or(16384);
     let iova_pages = chosen.iova.unwrap_or(32768);
@@ -183,19 +228,16 @@ fn options_of(chosen: &Chosen) -> Option<Options>
         page: 4096 * per_page,
         bounce_pages,
         iova_pages,
-        sectors: 2048,
+        sectors: u64::from(chosen.sectors.unwrap_or(2048)),
         image: None,
     })
 }
 
-/// Reads the words of a run: `run`, and then any of the pairs `--page P` (4,096 or 65,536 bytes,
-/// else 4,096), `--bounce-pages N` (slots of 4,096 bytes: 2 to 16,384, else 16,384; whole pages, two
-/// at least) and `--iova-pages N` (above the slots of bounce memory and at most 65,536, else
-/// 32,768), in any order, each at most once. P and N are decimal without leading zeros. It takes no
-/// memory yet.
-pub fn read_words(_alloc: Global, words: &Vec<String>) -> Result<Options, WordsError>
+/// Reads the words of a run as `read_words`, but for the path of an image, so that it takes no
+/// memory: `image` is `None`.
+pub fn read_numbers(words: &Vec<String>) -> Result<Options, WordsError>
     ensures { MatchResult result
-        (λ o. IsOptions o (asked_sizes (map string_bytes words.now.items)))
+        (λ o. AreNumbers o (asked_sizes (map string_bytes words.now.items)))
         (λ e. (e ≡ WordsError.Usage) × (asked_sizes (map string_bytes words.now.items) ≡ None)) }
 {
     let words = words.as_slice();
@@ -206,8 +248,33 @@ pub fn read_words(_alloc: Global, words: &Vec<String>) -> Result<Options, WordsE
         None => return Err(WordsError::Usage),
         Some(chosen) => chosen,
     };
-    match options_of(&chosen) {
+    match numbers_of(&chosen) {
         None => Err(WordsError::Usage),
         Some(options) => Ok(options),
+    }
+}
+
+/// Reads the words of a run: `run`, and then any of these pairs, in any order, each at most once.
+///
+/// - `--page P`: 4,096 or 65,536 bytes, else 4,096.
+/// - `--bounce-pages N`: slots of 4,096 bytes, 2 to 16,384, else 16,384; whole pages, two at least.
+/// - `--iova-pages N`: above the slots of bounce memory and at most 65,536, else 32,768.
+/// - `--sectors N`: 0 to 131,072, else 2,048.
+/// - `--image PATH`: not empty, and not together with `--sectors`.
+///
+/// P and N are decimal without leading zeros. It takes memory for the path alone, once the words are
+/// known to be those of a run.
+pub fn read_words(alloc: Global, words: &Vec<String>) -> Result<Options, WordsError>
+    ensures { MatchResult result
+        (λ o. IsOptions o (asked_sizes (map string_bytes words.now.items)) (asked_image (map string_bytes words.now.items)))
+        (λ e. (e ≡ WordsError.Usage) ↔ (asked_sizes (map string_bytes words.now.items) ≡ None)) }
+{
+    let numbers = match read_numbers(words) {
+        Err(_) => return Err(WordsError::Usage),
+        Ok(numbers) => numbers,
+    };
+    match read_path(alloc, &words.as_slice()[1..]) {
+        Err(AllocError) => Err(WordsError::Memory),
+        Ok(image) => Ok(Options { image, ..numbers }),
     }
 }

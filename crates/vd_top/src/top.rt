@@ -13,7 +13,7 @@ ghost use Rattle.vd_top.specs.Written.{EndsAt, stop_of_status, is_status, is_lin
 use crate::exit::{Exit, run, sizes_of, usage};
 use std::alloc::Global;
 use vd_io::{Image, Sink, Source};
-use vd_options::read_words;
+use vd_options::read_numbers;
 
 /// Runs the script that the source gives, with the words of a run.
 pub fn script_top<S: Source, K: Sink, I: Image>(
@@ -57,7 +57,7 @@ pub fn script_top<S: Source, K: Sink, I: Image>(
         (Rose (S.faults source.old) (S.faults source.new) → ⊥) → (Rose (K.faults sink.old) (K.faults sink.new) → ⊥) →
         (result.status ≡ 0) ⊎ (result.status ≡ 5) }
 {
-    match read_words(alloc, words) {
+    match read_numbers(words) {
         Err(_) => usage(alloc),
         Ok(options) => run(alloc, sizes_of(&options), source, sink, disk),
     }

@@ -1,20 +1,27 @@
 //! `vduse run`: reads a script on standard input, and writes the reply to each of its lines on
 //! standard output.
 //!
-//! It passes its words, standard input and output, and an empty image to `script_top`, whose
-//! contract says what is written, and ends with the status that it answers: 0 where every line was
-//! answered, 2 for other words, 3 and 4 where input or output failed, 5 without memory, 6 at a line
-//! that is not in the grammar, 7 past a limit.
+//! It passes its words, standard input and output, and an image to `script_top`, whose contract says
+//! what is written, and ends with the status that it answers: 0 where every line was answered, 2 for
+//! other words, 3 and 4 where input or output failed, 5 without memory, 6 at a line that is not in
+//! the grammar, 7 past a limit. The image is in memory or in a file, as the words say; where that
+//! file can't be opened, the status is 8, and nothing is read.
 #![tactic(auto)]
 
-use std::alloc::AllocError;
+use std::fs::{File, OpenOptions};
 use std::io::ErrorKind;
 use std::process::ExitCode;
 use std::rt::Env;
-use std::{env, io};
-use vd_io::{MemImage, StdSink, StdSource};
+use std::{env, io, str};
+use vd_io::{FileImage, Image, MemImage, StdSink, StdSource};
 use vd_num::Lines;
-use vd_top::script_top;
+use vd_top::{WordsError, read_words, script_top};
+
+/// The status of a run for which there is no memory.
+const NO_MEMORY: u8 = 5;
+
+/// The status of a run whose image can't be opened.
+const NO_IMAGE: u8 = 8;
 
 /// The words after the program's name.
 fn words<R: Env + AllocGlobal>(rt: &R) -> io::Result<Vec<String>> {
@@ -25,18 +32,53 @@ fn words<R: Env + AllocGlobal>(rt: &R) -> io::Result<Vec<String>> {
     Ok(words)
 }
 
+/// The image in the file of this path.
+fn open_image(rt: &HostRuntime, path: &[u8]) -> Option<FileImage<File>> {
+    let path = str::from_utf8(path).ok()?;
+    let file = OpenOptions::new()
+        .read(true)
+        .write(true)
+        .open(rt, path)
+        .ok()?;
+    FileImage::new(file).ok()
+}
+
+/// Runs the script of standard input over this image.
+fn run<I: Image + Drop>(rt: &HostRuntime, words: &Vec<String>, mut disk: I) -> u8 {
+    let mut source = StdSource::new(rt.stdin());
+    let mut sink = StdSink::new(rt.stdout());
+    script_top(rt.alloc(), words, &mut source, &mut sink, &mut disk).status
+}
+
+/// Runs it over an image in memory, of zeros.
+fn run_in_memory(rt: &HostRuntime, words: &Vec<String>, sectors: u64) -> u8 {
+    match MemImage::new(rt.alloc(), sectors, Lines::new(rt.alloc())) {
+        Ok(disk) => run(rt, words, disk),
+        Err(_) => NO_MEMORY,
+    }
+}
+
+/// Runs it over the image in the file of this path.
+fn run_in_file(rt: &HostRuntime, words: &Vec<String>, path: &[u8]) -> u8 {
+    match open_image(rt, path) {
+        Some(disk) => run(rt, words, disk),
+        None => NO_IMAGE,
+    }
+}
+
 fn main(rt: HostRuntime) -> ExitCode {
     let words = match words(&rt) {
         Ok(words) => words,
         Err(error) if error.kind() == ErrorKind::InvalidData => return ExitCode::from(2),
-        Err(_) => return ExitCode::from(5),
+        Err(_) => return ExitCode::from(NO_MEMORY),
     };
-    let mut disk = match MemImage::new(rt.alloc(), 0, Lines::new(rt.alloc())) {
-        Ok(disk) => disk,
-        Err(AllocError) => return ExitCode::from(5),
+    let status = match read_words(rt.alloc(), &words) {
+        Err(WordsError::Usage) => run_in_memory(&rt, &words, 0),
+        Err(WordsError::Memory) => NO_MEMORY,
+        Ok(options) => match &options.image {
+            None => run_in_memory(&rt, &words, options.sectors),
+            Some(path) => run_in_file(&rt, &words, path.as_slice()),
+        },
     };
-    let mut source = StdSource::new(rt.stdin());
-    let mut sink = StdSink::new(rt.stdout());
-    let exit = script_top(rt.alloc(), &words, &mut source, &mut sink, &mut disk);
-    ExitCode::from(exit.status)
+    ExitCode::from(status)
 }

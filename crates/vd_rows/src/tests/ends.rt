@@ -14,7 +14,7 @@ fn words_are_refused(rt: HostRuntime) -> Result<(), Fail> {
         &["run", "--bounce-pages", "1"],
         &["run", "--iova-pages", "65537"],
         &["run", "--page", "4096", "--page", "4096"],
-        &["run", "--sectors", "64"],
+        &["run", "--sectors", "131073"],
     ];
     for words in refused {
         let case = Case {

@@ -1,4 +1,4 @@
-use Rattle.std.proofs.Common.{◌≡◌, None, map, length}
+use Rattle.std.proofs.Common.{◌≡◌, map, length}
 use Rattle.std.specs.Prelude.{string_bytes}
 use Rattle.vd_options.specs.Words.{with_pairs, nothing_chosen}
 use Rattle.vd_options.proofs.words.read_pairs.Given as goal
