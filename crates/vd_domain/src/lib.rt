@@ -12,6 +12,7 @@ mod booking;
 mod domain;
 mod numbered;
 mod pages;
+mod remaining;
 mod streaming;
 #[cfg(test)]
 mod tests;

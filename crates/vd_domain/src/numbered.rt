@@ -4,6 +4,7 @@ ghost use Rattle.std.specs.Prelude.{◌≡◌, ◌+◌, ◌<◌, ◌^◌, ◌==�
 ghost use Rattle.std.specs.Option.{option_map};
 ghost use Rattle.vd_domain.specs.Numbered.{IsRising};
 
+use crate::remaining::Remaining;
 use std::alloc::{AllocError, Global};
 use std::marker::Model;
 
@@ -11,7 +12,7 @@ use std::marker::Model;
 #[derive(Drop)]
 pub struct Numbered<T: Drop> {
     /// The numbers rise, since each new one is the greatest.
-    entries: Vec<(u64, T)>,
+    entries: Remaining<(u64, T)>,
     made: u64,
 }
 
@@ -20,9 +21,9 @@ impl<T: Drop> Model for Numbered<T> {
 
     ghost Value = { Numbered T };
 
-    ghost view = { λ n. record { entries = n.entries.items; made = n.made } };
+    ghost view = { λ n. record { entries = n.entries; made = n.made } };
 
-    ghost invariant = { λ n. IsRising 0 n.made n.entries.items };
+    ghost invariant = { λ n. IsRising 0 n.made n.entries };
 }
 
 impl<T: Copy + Drop> Numbered<T> {
@@ -31,7 +32,7 @@ impl<T: Copy + Drop> Numbered<T> {
         ensures { result ≡ record { entries = []; made = 0 } }
     {
         Numbered {
-            entries: Vec::new(alloc),
+            entries: Remaining::new(alloc),
             made: 0,
         }
     }
@@ -64,7 +65,7 @@ impl<T: Copy + Drop> Numbered<T> {
                 self.made = number + 1;
                 Ok(number)
             }
-            Err(_) => Err(AllocError),
+            Err(AllocError) => Err(AllocError),
         }
     }
 
@@ -72,7 +73,7 @@ impl<T: Copy + Drop> Numbered<T> {
     pub fn get(&self, number: u64) -> Option<T>
         ensures { result ≡ option_map (λ e. e.1) (find (λ e. e.0 == number) self.now.entries) }
     {
-        let at = count_below(&self.entries, number);
+        let at = count_below(self.entries.as_slice(), number);
         if at < self.entries.len() && self.entries[at].0 == number {
             Some(self.entries[at].1)
         } else {
@@ -84,7 +85,7 @@ impl<T: Copy + Drop> Numbered<T> {
     pub fn by_number(&self) -> &[(u64, T)]
         ensures { result.now ≡ self.now.entries }
     {
-        &self.entries
+        self.entries.as_slice()
     }
 
     /// Takes the value of this number away.
@@ -125,11 +126,11 @@ fn count_below<T: Copy + Drop>(entries: &[(u64, T)], number: u64) -> usize
 }
 
 /// Takes the entry of this number away, if there is one. The numbers rise.
-fn take_out<T: Copy + Drop>(entries: &mut Vec<(u64, T)>, number: u64)
-    requires { (high : ℕ) × IsRising 0 high entries.old.items }
-    ensures { entries.new.items ≡ filter (λ e. not (e.0 == number)) entries.old.items }
+fn take_out<T: Copy + Drop>(entries: &mut Remaining<(u64, T)>, number: u64)
+    requires { (high : ℕ) × IsRising 0 high entries.old }
+    ensures { entries.new ≡ filter (λ e. not (e.0 == number)) entries.old }
 {
-    let at = count_below(entries, number);
+    let at = count_below(entries.as_slice(), number);
     if at < entries.len() && entries[at].0 == number {
         entries.remove(at);
     }

@@ -7,7 +7,7 @@ pub invariant_of-self : goal.invariant_of-self
 invariant_of-self g c =
     subst (λ (es : List (ℕ × g.row.T.Denot)). IsRising 0 c.self.inside.made es)
     (sym (c.take_out.ensures))
-    (rising_fewer 0 c.self.inside.made c.args.number c.self.inside.entries.items c.self.invariant)
+    (rising_fewer 0 c.self.inside.made c.args.number c.self.inside.entries c.self.invariant)
 
 pub returns : goal.returns
 returns g c =

@@ -11,7 +11,7 @@ invariant_of-self g c =
     let back : made ≡ made - 1 + 1 = omega (arith, same, some) in
     subst (λ (es : List (ℕ × g.row.T.Denot)). IsRising 0 (made - 1) es)
     (sym (c.take_out.ensures))
-    (rising_cut 0 (made - 1) c.self.inside.entries.items (omega arith) (subst (λ (n : ℕ). IsRising 0 n c.self.inside.entries.items) back c.self.invariant))
+    (rising_cut 0 (made - 1) c.self.inside.entries (omega arith) (subst (λ (n : ℕ). IsRising 0 n c.self.inside.entries) back c.self.invariant))
 
 pub returns-clause-rest : goal.returns-clause-rest
 returns-clause-rest g c =
@@ -24,7 +24,7 @@ pub returns-clause-last : goal.returns-clause-last
 returns-clause-last g c = λ es value is.
     let made : ℕ = c.self.inside.made in
     let same : made ≡ c.args.self.now.made = ap (λ (n : Numbered g.row.T.Denot). n.made) c.self.view_is in
-    let all : c.self.inside.entries.items ≡ es ++ (made - 1, value) ∷ [] =
+    let all : c.self.inside.entries ≡ es ++ (made - 1, value) ∷ [] =
     (ap (λ (n : Numbered g.row.T.Denot). n.entries) c.self.view_is ∙ is ∙ ap (λ (n : ℕ). es ++ (n - 1, value) ∷ []) (sym same)) in
     ap (λ (xs : List (ℕ × g.row.T.Denot)). record { entries = xs; made = made - 1 })
     (c.take_out.ensures
