@@ -22,6 +22,3 @@ pub use journal::{Naming, Note};
 pub use messages::{MessageState, NewMessages, SharedMessages};
 pub use vd_model::{Body, Dir, Region, Sent, TakeAnswer};
 pub use vd_num::{Errno, Range};
-
-#[cfg(test)]
-mod tests;

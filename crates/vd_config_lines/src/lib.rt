@@ -7,6 +7,3 @@
 mod lines;
 
 pub use lines::{getconfig, setconfig};
-
-#[cfg(test)]
-mod tests;

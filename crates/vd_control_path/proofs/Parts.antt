@@ -17,6 +17,7 @@ use Rattle.vd_message_lines.specs.After.{MessagesAfter, is_message_act}
 use Rattle.vd_config_lines.specs.After.{ConfigBefore, ConfigAfter, is_config_act}
 use Rattle.vd_control_path.specs.declared.path.ControlPath.{ControlPath}
 use Rattle.vd_control_path.specs.Acts.{is_path_act, is_memory_act}
+use Rattle.vd_control_path.specs.Ends.{closings_of}
 use Rattle.vd_control_path.specs.Stands.{PathBefore, PathAfter, IsWithin}
 
 both_of : (a b : Bool) → (a && b) ≡ true → (a ≡ true) × (b ≡ true)
@@ -151,6 +152,7 @@ state_line {made} {done} {p} k acts s a = record {
     config = config_same made done acts p.config (same_after (config_of made.config) is_state_act (of_state (config_of made.config) (λ act acts. refl)) acts done a.only) s.config;
     opened = s.opened ∙ sym (same_after is_open is_state_act (of_state is_open (λ act acts. refl)) acts done a.only);
     sessions = s.sessions ∙ sym (same_after sessions is_state_act (of_state sessions (λ act acts. refl)) acts done a.only);
+    closings = s.closings ∙ sym (same_after closings_of is_state_act (of_state closings_of (λ act acts. refl)) acts done a.only);
     attached = s.attached ∙ sym (same_after is_attached is_state_act (of_state is_attached (λ act acts. refl)) acts done a.only);
   };
 }
@@ -164,6 +166,7 @@ message_line {made} {done} {p} k acts s a = record {
     config = config_same made done acts p.config (same_after (config_of made.config) is_message_act (of_message (config_of made.config) (λ act acts. refl)) acts done a.only) s.config;
     opened = s.opened ∙ sym (same_after is_open is_message_act (of_message is_open (λ act acts. refl)) acts done a.only);
     sessions = s.sessions ∙ sym (same_after sessions is_message_act (of_message sessions (λ act acts. refl)) acts done a.only);
+    closings = s.closings ∙ sym (same_after closings_of is_message_act (of_message closings_of (λ act acts. refl)) acts done a.only);
     attached = s.attached ∙ sym (same_after is_attached is_message_act (of_message is_attached (λ act acts. refl)) acts done a.only);
   };
 }
@@ -177,6 +180,7 @@ config_line {made} {done} {p} k acts s a = record {
     config = a.stands;
     opened = s.opened ∙ sym (same_after is_open is_config_act (of_config is_open (λ at bytes acts. refl)) acts done a.only);
     sessions = s.sessions ∙ sym (same_after sessions is_config_act (of_config sessions (λ at bytes acts. refl)) acts done a.only);
+    closings = s.closings ∙ sym (same_after closings_of is_config_act (of_config closings_of (λ at bytes acts. refl)) acts done a.only);
     attached = s.attached ∙ sym (same_after is_attached is_config_act (of_config is_attached (λ at bytes acts. refl)) acts done a.only);
   };
 }
@@ -194,6 +198,7 @@ record View : Type 0 where
   config : List ℕ
   opened : Bool
   sessions : ℕ
+  closings : ℕ
   attached : Bool
 
 abbrev view : List ℕ → List Act → View
@@ -203,6 +208,7 @@ view first acts = record {
   config = config_of first acts;
   opened = is_open acts;
   sessions = sessions acts;
+  closings = closings_of acts;
   attached = is_attached acts;
 }
 
@@ -234,6 +240,7 @@ memory_line {made} {done} {p} acts only s =
       config = record { bytes = s.config.bytes ∙ ap (λ (v : View). v.config) same; size = s.config.size };
       opened = s.opened ∙ ap (λ (v : View). v.opened) same;
       sessions = s.sessions ∙ ap (λ (v : View). v.sessions) same;
+      closings = s.closings ∙ ap (λ (v : View). v.closings) same;
       attached = s.attached ∙ ap (λ (v : View). v.attached) same;
     }
 
@@ -241,10 +248,10 @@ memory_line {made} {done} {p} acts only s =
 
 -- counts within a number are within a greater one
 pub within_later : (least most : ℕ) (p : ControlPath) → least ≤ most → IsWithin least p → IsWithin most p
-within_later least most p le w = record { state = counts_within_more least most p.state le w.state; sessions = (let h = w.sessions in omega arith) }
+within_later least most p le w = record { state = counts_within_more least most p.state le w.state; sessions = (let h = w.sessions in omega arith); closings = (let h = w.closings in omega arith) }
 
 pub within_more : (most : ℕ) (p : ControlPath) → IsWithin most p → IsWithin (most + 1) p
 within_more most p w = within_later most (most + 1) p (omega arith) w
 
 pub state_within : (most : ℕ) (p : ControlPath) (k : Kept) → IsWithin most p → CountsWithin (most + 1) k → IsWithin (most + 1) (record p { state = k })
-state_within most p k w c = record { state = c; sessions = (let h = w.sessions in omega arith) }
+state_within most p k w c = record { state = c; sessions = (let h = w.sessions in omega arith); closings = (let h = w.closings in omega arith) }

@@ -1,4 +1,5 @@
 -- The words of this crate's contracts.
 pub mod Acts
+pub mod Ends
 pub mod Forms
 pub mod Stands

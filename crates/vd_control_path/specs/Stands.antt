@@ -10,6 +10,7 @@ use Rattle.vd_message_lines.specs.After.{MessagesBefore}
 use Rattle.vd_config_lines.specs.After.{ConfigBefore}
 use Rattle.vd_control_path.specs.declared.path.ControlPath.{ControlPath}
 use Rattle.vd_control_path.specs.Acts.{is_path_act}
+use Rattle.vd_control_path.specs.Ends.{closings_of}
 
 -- each part stands for a device's acts
 pub record PathBefore (made : Creation) (done : List Act) (p : ControlPath) : Type 0 where
@@ -18,6 +19,7 @@ pub record PathBefore (made : Creation) (done : List Act) (p : ControlPath) : Ty
   pub config : ConfigBefore made done p.config
   pub opened : p.opened ≡ is_open done
   pub sessions : p.sessions ≡ sessions done
+  pub closings : p.closings ≡ closings_of done
   pub attached : p.attached ≡ is_attached done
 
 -- it stands for these acts too, all of which leave the memory alone
@@ -29,3 +31,4 @@ pub record PathAfter (made : Creation) (done : List Act) (p : ControlPath) (acts
 pub record IsWithin (most : ℕ) (p : ControlPath) : Type 0 where
   pub state : CountsWithin most p.state
   pub sessions : p.sessions ≤ most
+  pub closings : p.closings ≤ most

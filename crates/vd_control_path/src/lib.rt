@@ -6,10 +6,9 @@
 #![tactic(auto)]
 
 mod bus;
+mod ends;
 mod node;
 mod path;
 
+pub use ends::ends_counted;
 pub use path::ControlPath;
-
-#[cfg(test)]
-mod tests;

@@ -1,6 +1,6 @@
 //! The control path and its parts.
 
-ghost use Rattle.std.specs.Prelude.{◌≡◌, ◌+◌, ◌<◌, ◌^◌, ◌∷◌, [], ℕ, List, IfOk};
+ghost use Rattle.std.specs.Prelude.{◌≡◌, ◌+◌, ◌-◌, ◌<◌, ◌^◌, ◌∷◌, [], ℕ, List, IfOk};
 ghost use Rattle.vd_model.specs.Creation.{Creation};
 ghost use Rattle.vd_model.specs.Acts.{Act, Node, Bus, Message_act, Closed, Detached};
 ghost use Rattle.vd_model.specs.Acts as acts;
@@ -9,6 +9,7 @@ ghost use Rattle.vd_model.specs.Messages.{Elapsed, Lost};
 ghost use Rattle.vd_model.specs.NodeTurns.{open_turn};
 ghost use Rattle.vd_model.specs.BusTurns.{attach_turn};
 ghost use Rattle.vd_answers.specs.Tells.{Tells};
+ghost use Rattle.vd_state.specs.Kept.{CountsWithin};
 
 use std::alloc::{AllocError, Global};
 use vd_answers::Hears;
@@ -27,8 +28,9 @@ pub struct ControlPath {
     pub messages: Messages,
     pub state: State,
     pub config: ConfigSpace,
-    /// How many sessions were opened, and whether one is open.
+    /// How many sessions were opened, how many ended, and whether one is open.
     pub sessions: u64,
+    pub closings: u64,
     pub opened: bool,
     /// It is on the bus.
     pub attached: bool,
@@ -54,6 +56,7 @@ impl ControlPath {
             state,
             config: ConfigSpace::new(config),
             sessions: 0,
+            closings: 0,
             opened: false,
             attached: false,
         })
@@ -88,10 +91,12 @@ impl ControlPath {
 
     /// Ends the session. The messages that it held are received again.
     pub fn close(&mut self)
+        requires { self.old.closings < 2 ^ 62 }
         ensures stands { (made : Creation) (done : List Act) → PathBefore made done self.old →
             PathBefore made (Message_act Lost ∷ Node Closed ∷ done) self.new }
-        ensures within { (most : ℕ) → IsWithin most self.old → IsWithin most self.new }
+        ensures within { (most : ℕ) → IsWithin most self.old → IsWithin (most + 1) self.new }
     {
+        self.closings += 1;
         self.opened = false;
         self.messages.lost();
     }
@@ -127,9 +132,10 @@ impl ControlPath {
 
     /// Resets the state. The largest sizes, the offered features and all other parts stay.
     pub fn reset(&mut self)
+        requires { CountsWithin (2 ^ 62 - 1) self.old.state }
         ensures stands { (made : Creation) (done : List Act) → PathBefore made done self.old →
             PathBefore made (acts.State Cleared ∷ done) self.new }
-        ensures within { (most : ℕ) → IsWithin most self.old → IsWithin most self.new }
+        ensures within { (most : ℕ) → IsWithin most self.old → IsWithin (most + 1) self.new }
     {
         self.state.reset();
     }

@@ -49,10 +49,11 @@ impl Device {
     /// Takes the device off the bus and resets it, unless something of the driver's is left.
     fn detach<T: Hears>(&mut self, told: &mut T)
         requires ready { T.is_ready told.old }
+        requires room { IsWithin (2 ^ 62 - 1) self.old }
         ensures line { (x : Setting) (made : Creation) (acts : List Act) (m : PoolMemory) → Stands x made acts self.old m
             → Tells (λ said. T.heard told.old said told.new) (detach_turn acts) (After x made acts self.new m) }
         ensures rest { KeepsFrames self.old.memory self.new.memory }
-        ensures path { (most : ℕ) → path.IsWithin most self.old.path → path.IsWithin most self.new.path }
+        ensures path { (most : ℕ) → path.IsWithin most self.old.path → path.IsWithin (most + 1) self.new.path }
     {
         if self.is_busy() {
             told.refused(Errno::Busy);
@@ -66,10 +67,11 @@ impl Device {
     /// Asks for a reset. A broken device refuses it, and is reset at once.
     fn reset<T: Hears>(&mut self, now: u64, told: &mut T) -> Result<(), AllocError>
         requires ready { T.is_ready told.old }
+        requires room { IsWithin (2 ^ 62 - 1) self.old }
         ensures line { (x : Setting) (made : Creation) (acts : List Act) (m : PoolMemory) → Stands x made acts self.old m
             → MayTell (λ said. T.heard told.old said told.new) (reset_turn now acts) (After x made acts self.new m) result }
         ensures rest { KeepsFrames self.old.memory self.new.memory }
-        ensures path { (most : ℕ) → path.IsWithin most self.old.path → path.IsWithin most self.new.path }
+        ensures path { (most : ℕ) → path.IsWithin most self.old.path → path.IsWithin (most + 1) self.new.path }
     {
         if self.path.messages.broken() {
             self.clear();

@@ -1,6 +1,6 @@
 //! The ends of messages.
 
-ghost use Rattle.std.specs.Prelude.{◌≡◌, ◌∷◌, ◌++◌, [], ℕ, List};
+ghost use Rattle.std.specs.Prelude.{◌≡◌, ◌+◌, ◌-◌, ◌^◌, ◌∷◌, ◌++◌, [], ℕ, List};
 ghost use Rattle.vd_pool.specs.Memory.{PoolMemory};
 ghost use Rattle.vd_model.specs.declared.answer.Answer.TheVariants.{Done};
 ghost use Rattle.vd_model.specs.Setting.{Setting};
@@ -9,6 +9,7 @@ ghost use Rattle.vd_model.specs.Acts.{Act, message_acts};
 ghost use Rattle.vd_model.specs.Messages.{message_told};
 ghost use Rattle.vd_model.specs.BusTurns.{asks_reset, take_turn};
 ghost use Rattle.vd_answers.specs.Tells.{Tells};
+ghost use Rattle.vd_state.specs.Kept.{CountsWithin};
 ghost use Rattle.vd_control_path.specs.Stands as path;
 ghost use Rattle.vd_memory_lines.specs.Rest.{KeepsFrames};
 ghost use Rattle.vd_device.specs.Ends.{done_acts, failed_acts, end_items};
@@ -43,14 +44,15 @@ fn tell_end<T: Hears>(body: Body, avail: u16, told: &mut T)
 }
 
 impl Device {
-    ghost use Rattle.vd_device.specs.Stands.{Stands, After};
+    ghost use Rattle.vd_device.specs.Stands.{Stands, After, IsWithin};
 
     /// What the end of a failed message does.
     fn fail(&mut self, body: Body)
+        requires { CountsWithin (2 ^ 62 - 1) self.old.path.state }
         ensures stands { (x : Setting) (made : Creation) (acts : List Act) (m : PoolMemory) → Stands x made acts self.old m
             → Stands x made (failed_acts body ++ acts) self.new m }
         ensures rest { KeepsFrames self.old.memory self.new.memory }
-        ensures path { (most : ℕ) → path.IsWithin most self.old.path → path.IsWithin most self.new.path }
+        ensures path { (most : ℕ) → path.IsWithin most self.old.path → path.IsWithin (most + 1) self.new.path }
     {
         if !asks_reset(body) {
             return;
@@ -60,10 +62,11 @@ impl Device {
 
     /// What the end of a message does that is done.
     fn accomplish(&mut self, body: Body)
+        requires { CountsWithin (2 ^ 62 - 1) self.old.path.state }
         ensures stands { (x : Setting) (made : Creation) (acts : List Act) (m : PoolMemory) → Stands x made acts self.old m
             → Stands x made (done_acts body ++ acts) self.new m }
         ensures rest { KeepsFrames self.old.memory self.new.memory }
-        ensures path { (most : ℕ) → path.IsWithin most self.old.path → path.IsWithin most self.new.path }
+        ensures path { (most : ℕ) → path.IsWithin most self.old.path → path.IsWithin (most + 1) self.new.path }
     {
         if asks_reset(body) {
             self.clear();
@@ -78,10 +81,11 @@ impl Device {
     /// Takes the end of a message, if it has one.
     pub(crate) fn take<T: Hears>(&mut self, id: u32, told: &mut T)
         requires ready { T.is_ready told.old }
+        requires room { IsWithin (2 ^ 62 - 1) self.old }
         ensures line { (x : Setting) (made : Creation) (acts : List Act) (m : PoolMemory) → Stands x made acts self.old m
             → Tells (λ said. T.heard told.old said told.new) (take_turn id (message_told (message_acts acts) id)) (After x made acts self.new m) }
         ensures rest { KeepsFrames self.old.memory self.new.memory }
-        ensures path { (most : ℕ) → path.IsWithin most self.old.path → path.IsWithin most self.new.path }
+        ensures path { (most : ℕ) → path.IsWithin most self.old.path → path.IsWithin (most + 1) self.new.path }
     {
         match self.path.messages.take(id) {
             TakeAnswer::Pending => told.answer(Answer::Pending),

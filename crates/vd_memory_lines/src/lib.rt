@@ -10,8 +10,6 @@ mod coherent;
 mod mappings;
 mod memory;
 mod steps;
-#[cfg(test)]
-mod tests;
 
 pub use areas::{Extent, capability};
 pub use memory::Memory;

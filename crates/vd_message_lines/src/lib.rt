@@ -10,6 +10,3 @@ mod raw;
 
 pub use lines::{answer, recv, send, timeout};
 pub use raw::{read, write};
-
-#[cfg(test)]
-mod tests;

@@ -11,8 +11,6 @@ mod laws;
 mod polling;
 mod publishing;
 mod rings;
-#[cfg(test)]
-mod tests;
 
 pub use adding::add;
 pub use held::{HeldRing, KnownQueue, RingWanted};

@@ -1,4 +1,5 @@
 -- What the state is after each act.
+use mir.Val.{bool_byte}
 use Rattle.std.proofs.Common.{◌≡◌, ℕ, zero, suc, ◌+◌, ◌<◌, ◌≤◌, Bool, true, false, ◌&&◌, ◌||◌, not, Some, None, refl, ap, subst, ◌∙◌, sym, arith, cond, List, [], ◌∷◌, length, nat_lt, ◌==◌, set, map, eqb-true, eq-eqb, length-set, take, get_or, add-one, replicate}
 use Rattle.std.specs.List.{slice_get, list_all}
 use Rattle.std.specs.Option.{option_map}
@@ -7,7 +8,7 @@ use Rattle.vd_model.specs.declared.step.QueueOrConfig.TheVariants as interrupt
 use Rattle.vd_model.specs.State.{StateAct, Max_set, Num_set, Addr_set, Ready_set, Avail_set, Kick_file_set, Kicked, Kicks_taken, Callback_set, Injected, Interrupts_taken, Cleared, DeviceShape, Addresses, is_queue, device_status, features_of, max_of, num_of, addresses_of, avail_of, is_ready, has_kick_file, kicks_of, is_remembered, has_callback, counts, interrupts_of, are_set_up}
 use Rattle.vd_state.specs.declared.queue.Queue.{Queue}
 use Rattle.vd_state.specs.Kept.{Kept, new_queue, queue_after_reset, queue_after_kick, with_kick_file, queue_after_interrupt}
-use Rattle.vd_state.specs.Stands.{Stands, queue_of}
+use Rattle.vd_state.specs.Stands.{Stands, queue_of, generation_of}
 use Rattle.std.proofs.lemmas.Option.{get_or_from_slice_get}
 use Rattle.std.proofs.lemmas.List.Folds.{list_all_more}
 use Rattle.std.proofs.lemmas.List.{length-map, length-replicate, take_all}
@@ -53,24 +54,35 @@ module _ (made : DeviceShape) (acts : List StateAct) (s : Kept) (st : Stands mad
     is_old : old ≡ queue_of acts k
     is_old = found_queue k old there
 
+    -- a generation more, where one begins
+    abbrev counted : ℕ → Bool → ℕ
+    counted q b = cond b (generation_of acts q + 1) (generation_of acts q)
+
     pub max_stands : (max : ℕ) → Stands made (Max_set k max ∷ acts) (record s { queues = set s.queues k (record old { max = max }) })
     max_stands max = changed (Max_set k max) k (record old { max = max }) old there (λ q b. record (queue_of acts q) { max = cond b max (max_of acts q) })
         (λ q. refl) (λ q. refl) (ap (λ (w : Queue). record w { max = max }) is_old) (refl, refl, refl, refl)
 
-    pub num_stands : (num : ℕ) → Stands made (Num_set k num ∷ acts) (record s { queues = set s.queues k (record old { num = num }) })
-    num_stands num = changed (Num_set k num) k (record old { num = num }) old there (λ q b. record (queue_of acts q) { num = cond b num (num_of acts q) })
-        (λ q. refl) (λ q. refl) (ap (λ (w : Queue). record w { num = num }) is_old) (refl, refl, refl, refl)
+    pub num_stands : (num : ℕ) → Stands made (Num_set k num ∷ acts) (record s { queues = set s.queues k (record old { num = num; generation = old.generation + 1 }) })
+    num_stands num = changed (Num_set k num) k (record old { num = num; generation = old.generation + 1 }) old there
+        (λ q b. record (queue_of acts q) { num = cond b num (num_of acts q); generation = counted q b })
+        (λ q. refl) (λ q. refl) (ap (λ (w : Queue). record w { num = num; generation = w.generation + 1 }) is_old) (refl, refl, refl, refl)
 
-    pub addr_stands : (desc driver device : ℕ) → Stands made (Addr_set k desc driver device ∷ acts) (record s { queues = set s.queues k (record old { desc = desc; driver = driver; device = device }) })
-    addr_stands desc driver device = changed (Addr_set k desc driver device) k (record old { desc = desc; driver = driver; device = device }) old there
-        (λ q b. record (queue_of acts q) { desc = (chosen q b).desc; driver = (chosen q b).driver; device = (chosen q b).device })
-        (λ q. refl) (λ q. refl) (ap (λ (w : Queue). record w { desc = desc; driver = driver; device = device }) is_old) (refl, refl, refl, refl) where
+    pub addr_stands : (desc driver device : ℕ) → Stands made (Addr_set k desc driver device ∷ acts) (record s { queues = set s.queues k (record old { desc = desc; driver = driver; device = device; generation = old.generation + 1 }) })
+    addr_stands desc driver device = changed (Addr_set k desc driver device) k (record old { desc = desc; driver = driver; device = device; generation = old.generation + 1 }) old there
+        (λ q b. record (queue_of acts q) { desc = (chosen q b).desc; driver = (chosen q b).driver; device = (chosen q b).device; generation = counted q b })
+        (λ q. refl) (λ q. refl) (ap (λ (w : Queue). record w { desc = desc; driver = driver; device = device; generation = w.generation + 1 }) is_old) (refl, refl, refl, refl) where
           chosen : ℕ → Bool → Addresses
           chosen q b = cond b (record { desc = desc; driver = driver; device = device }) (addresses_of acts q)
 
-    pub ready_stands : (ready : Bool) → Stands made (Ready_set k ready ∷ acts) (record s { queues = set s.queues k (record old { ready = ready }) })
-    ready_stands ready = changed (Ready_set k ready) k (record old { ready = ready }) old there (λ q b. record (queue_of acts q) { ready = cond b ready (is_ready acts q) })
-        (λ q. refl) (λ q. refl) (ap (λ (w : Queue). record w { ready = ready }) is_old) (refl, refl, refl, refl)
+    pub ready_stands : (ready : Bool) (n : ℕ) → n ≡ old.generation + bool_byte (not ready) → Stands made (Ready_set k ready ∷ acts) (record s { queues = set s.queues k (record old { ready = ready; generation = n }) })
+    ready_stands ready n is = changed (Ready_set k ready) k (record old { ready = ready; generation = n }) old there
+        (λ q b. record (queue_of acts q) { ready = cond b ready (is_ready acts q); generation = counted q (b && not ready) })
+        (λ q. refl) (λ q. refl)
+        (ap (λ m. record old { ready = ready; generation = m }) (is ∙ by (not ready) old.generation)
+        ∙ ap (λ (w : Queue). record w { ready = ready; generation = cond (not ready) (w.generation + 1) w.generation }) is_old) (refl, refl, refl, refl) where
+          by : (b : Bool) (m : ℕ) → m + bool_byte b ≡ cond b (m + 1) m
+          by true m = refl
+          by false m = omega arith
 
     pub avail_stands : (avail : ℕ) → Stands made (Avail_set k avail ∷ acts) (record s { queues = set s.queues k (record old { avail = avail }) })
     avail_stands avail = changed (Avail_set k avail) k (record old { avail = avail }) old there (λ q b. record (queue_of acts q) { avail = cond b avail (avail_of acts q) })

@@ -28,11 +28,12 @@ new_queue max = record {
   remembered = false;
   callback = false;
   interrupts = 0;
+  generation = 0;
 }
 
--- a reset keeps the largest size
+-- a reset keeps the largest size, and begins a generation
 abbrev pub queue_after_reset : Queue → Queue
-queue_after_reset q = new_queue q.max
+queue_after_reset q = record (new_queue q.max) { generation = q.generation + 1 }
 
 -- a kick counts in the kick file, or is remembered without one
 abbrev pub queue_with_kick : Option ℕ → Queue → Queue
@@ -62,6 +63,7 @@ told_of q = record { max = q.max; num = q.num; desc = q.desc; driver = q.driver;
 pub record CountsWithin (most : ℕ) (s : Kept) : Type 0 where
   pub kicks : All (λ q. unwrap_or q.kicks 0 ≤ most) s.queues
   pub queues : All (λ q. q.interrupts ≤ most) s.queues
+  pub generations : All (λ q. q.generation ≤ most) s.queues
   pub config : s.interrupts ≤ most
 
 -- the queue's kicks, and the interrupts of a queue or of the config space, can be counted on
@@ -71,3 +73,10 @@ KicksCanRise s index = (q : Queue) → slice_get s.queues index ≡ Some q → u
 abbrev pub InterruptsCanRise : Kept → Option ℕ → Type 0
 InterruptsCanRise s None = s.interrupts < 2 ^ 62
 InterruptsCanRise s (Some index) = (q : Queue) → slice_get s.queues index ≡ Some q → q.interrupts < 2 ^ 62
+
+-- the queue's generation, or that of each queue, can be counted on
+abbrev pub GenerationCanRise : Kept → ℕ → Type 0
+GenerationCanRise s index = (q : Queue) → slice_get s.queues index ≡ Some q → q.generation < 2 ^ 62
+
+abbrev pub GenerationsCanRise : List Queue → Type 0
+GenerationsCanRise queues = All (λ q. q.generation < 2 ^ 62) queues

@@ -1,13 +1,22 @@
 -- The state stands for the acts that were done.
-use Rattle.std.specs.Prelude.{ℕ, ◌<◌, ◌≡◌, List, [], ◌∷◌, ◌++◌, Bool, true, false, Option, Some, None, Result, Ok, Err, length, slice_get}
+use Rattle.std.specs.Prelude.{ℕ, ◌+◌, ◌<◌, ◌≡◌, List, [], ◌∷◌, ◌++◌, Bool, true, false, ◌&&◌, not, ◌==◌, if◌then◌else◌, Option, Some, None, Result, Ok, Err, length, slice_get}
 use Rattle.vd_num.specs.declared.errno.Errno.{Errno}
 use Rattle.vd_num.specs.declared.errno.Errno.TheVariants.{Inval}
 use Rattle.vd_model.specs.declared.queue.QueueInfo.{QueueInfo}
 use Rattle.vd_model.specs.declared.step.QueueOrConfig.{QueueOrConfig}
 use Rattle.vd_model.specs.declared.step.QueueOrConfig.TheVariants as interrupt
-use Rattle.vd_model.specs.State.{StateAct, Kicks_taken, Interrupts_taken, DeviceShape, is_queue, is_queue_or_config, device_status, features_of, max_of, num_of, addresses_of, avail_of, is_ready, queue_info, kick_file_of, is_remembered, has_callback, interrupts_of}
+use Rattle.vd_model.specs.State.{StateAct, Num_set, Addr_set, Ready_set, Kicks_taken, Interrupts_taken, Cleared, DeviceShape, is_queue, is_queue_or_config, device_status, features_of, max_of, num_of, addresses_of, avail_of, is_ready, queue_info, kick_file_of, is_remembered, has_callback, interrupts_of}
 use Rattle.vd_state.specs.declared.queue.Queue.{Queue}
 use Rattle.vd_state.specs.Kept.{Kept}
+
+-- how often what the queue describes was set anew, or cleared
+abbrev pub generation_of : List StateAct → ℕ → ℕ
+generation_of [] q = 0
+generation_of (Num_set k num ∷ acts) q = if k == q then generation_of acts q + 1 else generation_of acts q
+generation_of (Addr_set k desc driver device ∷ acts) q = if k == q then generation_of acts q + 1 else generation_of acts q
+generation_of (Ready_set k ready ∷ acts) q = if (k == q) && not ready then generation_of acts q + 1 else generation_of acts q
+generation_of (Cleared ∷ acts) q = generation_of acts q + 1
+generation_of (_ ∷ acts) q = generation_of acts q
 
 -- what the acts say of a queue
 abbrev pub queue_of : List StateAct → ℕ → Queue
@@ -23,6 +32,7 @@ queue_of acts q = record {
   remembered = is_remembered acts q;
   callback = has_callback acts (interrupt.Queue q);
   interrupts = interrupts_of acts (interrupt.Queue q);
+  generation = generation_of acts q;
 }
 
 pub record Stands (made : DeviceShape) (acts : List StateAct) (s : Kept) : Type 0 where

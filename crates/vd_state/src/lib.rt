@@ -11,6 +11,3 @@ mod state;
 
 pub use state::State;
 pub use vd_model::QueueInfo;
-
-#[cfg(test)]
-mod tests;

@@ -3,7 +3,7 @@
 ghost use Rattle.std.specs.Prelude.{◌≡◌, ◌<◌, ◌≤◌, ◌^◌, Some, IfOk, OnOk, IfErr, OnErr, slice_get, slice_set, unwrap_or, vec_len, map, nat_lt};
 ghost use Rattle.std.specs.List.{list_all};
 ghost use Rattle.vd_num.specs.declared.errno.Errno.TheVariants.{Inval};
-ghost use Rattle.vd_state.specs.Kept.{queue_after_reset};
+ghost use Rattle.vd_state.specs.Kept.{queue_after_reset, GenerationsCanRise};
 
 use vd_model::QueueInfo;
 use vd_num::Errno;
@@ -26,10 +26,12 @@ pub struct Queue {
     pub remembered: bool,
     pub callback: bool,
     pub interrupts: u64,
+    /// How often what the queue describes was set anew or cleared.
+    pub generation: u64,
 }
 
 impl Queue {
-    ghost use Rattle.vd_state.specs.Kept.{new_queue, queue_after_kick, with_kick_file, queue_after_interrupt, told_of};
+    ghost use Rattle.vd_state.specs.Kept.{new_queue, queue_after_reset, queue_after_kick, with_kick_file, queue_after_interrupt, told_of};
 
     /// A queue with a largest size, of which nothing else is set.
     pub fn fresh(max: u16) -> Queue
@@ -47,6 +49,18 @@ impl Queue {
             remembered: false,
             callback: false,
             interrupts: 0,
+            generation: 0,
+        }
+    }
+
+    /// The queue after a reset: only its largest size stays, and a generation begins.
+    pub fn cleared(self) -> Queue
+        requires { self.generation < 2 ^ 62 }
+        ensures { result ≡ queue_after_reset self }
+    {
+        Queue {
+            generation: self.generation + 1,
+            ..Queue::fresh(self.max)
         }
     }
 
@@ -146,12 +160,13 @@ pub fn replace(queues: &mut Vec<Queue>, index: u32, queue: Queue)
     queues[index as usize] = queue;
 }
 
-/// Resets each queue: only its largest size stays.
+/// Resets each queue.
 pub fn clear_all(queues: &mut Vec<Queue>)
+    requires { GenerationsCanRise queues.old.items }
     ensures { queues.new.items ≡ map queue_after_reset queues.old.items }
 {
     for queue in queues.iter_mut() {
-        *queue = Queue::fresh(queue.max);
+        *queue = queue.cleared();
     }
 }
 

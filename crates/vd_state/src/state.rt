@@ -1,6 +1,6 @@
 //! The state of a device, and the calls on it.
 
-ghost use Rattle.std.specs.Prelude.{◌≡◌, ◌+◌, ◌<◌, ◌^◌, ◌==◌, ◌&&◌, not, bit_and, ℕ, List, [], ◌∷◌, Some, IfOk, slice_get};
+ghost use Rattle.std.specs.Prelude.{◌≡◌, ◌+◌, ◌<◌, ◌^◌, ◌==◌, ◌&&◌, true, false, not, bit_and, ℕ, List, [], ◌∷◌, Some, IfOk, slice_get};
 ghost use Rattle.vd_model.specs.State.{may_have, are_aligned};
 
 use crate::queue::{Queue, are_set_up, clear_all, queue_at, replace};
@@ -70,8 +70,8 @@ impl State {
     ghost use Rattle.vd_model.specs.State as acts;
     ghost use Rattle.vd_state.specs.declared.queue.Queue.{Queue};
     ghost use Rattle.vd_model.specs.State.{StateAct, DeviceShape, is_queue, is_queue_or_config, is_driver_ok, may_accept};
-    ghost use Rattle.vd_state.specs.Kept.{CountsWithin, KicksCanRise, InterruptsCanRise};
-    ghost use Rattle.vd_state.specs.Stands.{Stands, Does, Tells, TakesKicks, TakesInterrupts, subject};
+    ghost use Rattle.vd_state.specs.Kept.{CountsWithin, KicksCanRise, InterruptsCanRise, GenerationCanRise, GenerationsCanRise};
+    ghost use Rattle.vd_state.specs.Stands.{Stands, Does, Tells, TakesKicks, TakesInterrupts, subject, generation_of};
 
     /// The state of a new device with so many queues, which offers these features.
     pub fn new(alloc: Global, queues: u32, offered: u64) -> Result<State, AllocError>
@@ -148,24 +148,31 @@ impl State {
 
     /// Chooses a queue's size: a power of two, up to 32,768 and to the largest size.
     pub fn set_num(&mut self, index: u32, num: u32) -> Result<(), Errno>
+        requires { GenerationCanRise self.old index }
         ensures does { (made : DeviceShape) (done : List StateAct) → Stands made done self.old →
             Does made done (is_queue made index && may_have (acts.max_of done index) num) (acts.Num_set index num) result self.new }
-        ensures counts { (most : ℕ) → CountsWithin most self.old → CountsWithin most self.new }
+        ensures counts { (most : ℕ) → CountsWithin most self.old → CountsWithin (most + 1) self.new }
     {
         let queue = queue_at(&self.queues, index)?;
         if !is_size(num, queue.max) {
             return Err(Errno::Inval);
         }
-        replace(&mut self.queues, index, Queue { num, ..queue });
+        let queue = Queue {
+            num,
+            generation: queue.generation + 1,
+            ..queue
+        };
+        replace(&mut self.queues, index, queue);
         Ok(())
     }
 
     /// Sets the addresses of a queue's descriptor table, available ring and used ring, which have
     /// the alignments of virtio 1.2, section 2.7.
     pub fn set_addr(&mut self, index: u32, desc: u64, driver: u64, device: u64) -> Result<(), Errno>
+        requires { GenerationCanRise self.old index }
         ensures does { (made : DeviceShape) (done : List StateAct) → Stands made done self.old →
             Does made done (is_queue made index && are_aligned desc driver device) (acts.Addr_set index desc driver device) result self.new }
-        ensures counts { (most : ℕ) → CountsWithin most self.old → CountsWithin most self.new }
+        ensures counts { (most : ℕ) → CountsWithin most self.old → CountsWithin (most + 1) self.new }
     {
         let queue = queue_at(&self.queues, index)?;
         if !is_aligned(desc, driver, device) {
@@ -175,6 +182,7 @@ impl State {
             desc,
             driver,
             device,
+            generation: queue.generation + 1,
             ..queue
         };
         replace(&mut self.queues, index, queue);
@@ -183,12 +191,18 @@ impl State {
 
     /// Makes a queue ready or not.
     pub fn set_ready(&mut self, index: u32, ready: bool) -> Result<(), Errno>
+        requires { GenerationCanRise self.old index }
         ensures does { (made : DeviceShape) (done : List StateAct) → Stands made done self.old →
             Does made done (is_queue made index) (acts.Ready_set index ready) result self.new }
-        ensures counts { (most : ℕ) → CountsWithin most self.old → CountsWithin most self.new }
+        ensures counts { (most : ℕ) → CountsWithin most self.old → CountsWithin (most + 1) self.new }
     {
         let queue = queue_at(&self.queues, index)?;
-        replace(&mut self.queues, index, Queue { ready, ..queue });
+        let queue = Queue {
+            ready,
+            generation: queue.generation + u64::from(!ready),
+            ..queue
+        };
+        replace(&mut self.queues, index, queue);
         Ok(())
     }
 
@@ -210,6 +224,19 @@ impl State {
     {
         let queue = queue_at(&self.queues, index)?;
         Ok(queue.info())
+    }
+
+    /// How often what the queue describes was set anew or cleared; 0 where there is no such queue.
+    pub fn generation(&self, index: u32) -> u64
+        ensures there { (made : DeviceShape) (done : List StateAct) → Stands made done self.now → is_queue made index ≡ true →
+            result ≡ generation_of done index }
+        ensures missing { (made : DeviceShape) (done : List StateAct) → Stands made done self.now → is_queue made index ≡ false →
+            result ≡ 0 }
+    {
+        match queue_at(&self.queues, index) {
+            Ok(queue) => queue.generation,
+            Err(_) => 0,
+        }
     }
 
     /// Kicks a queue. A kick of a ready queue without a kick file is remembered.
@@ -358,11 +385,13 @@ impl State {
         are_set_up(&self.queues)
     }
 
-    /// Resets the state. The largest sizes and the offered features stay.
+    /// Resets the state. The largest sizes and the offered features stay, and a generation of each
+    /// queue begins.
     pub fn reset(&mut self)
+        requires { GenerationsCanRise self.old.queues }
         ensures stands { (made : DeviceShape) (done : List StateAct) → Stands made done self.old →
             Stands made (acts.Cleared ∷ done) self.new }
-        ensures counts { (most : ℕ) → CountsWithin most self.old → CountsWithin 0 self.new }
+        ensures counts { (most : ℕ) → CountsWithin most self.old → CountsWithin (most + 1) self.new }
     {
         self.status = 0;
         self.features = 0;

@@ -87,6 +87,7 @@ pub counts_within_more : (least most : ℕ) (s : Kept) → least ≤ most → Co
 counts_within_more least most s le w = record {
   kicks = All-weaker (λ (q : Queue). unwrap_or q.kicks 0 ≤ least) (λ (q : Queue). unwrap_or q.kicks 0 ≤ most) (λ q h. omega arith) s.queues w.kicks;
   queues = All-weaker (λ (q : Queue). q.interrupts ≤ least) (λ (q : Queue). q.interrupts ≤ most) (λ q h. omega arith) s.queues w.queues;
+  generations = All-weaker (λ (q : Queue). q.generation ≤ least) (λ (q : Queue). q.generation ≤ most) (λ q h. omega arith) s.queues w.generations;
   config = (let h = w.config in omega arith);
 }
 

@@ -4,7 +4,7 @@ ghost use Rattle.std.specs.Prelude.{◌≡◌, ◌+◌, ◌-◌, ◌^◌, ℕ, L
 ghost use Rattle.vd_model.specs.Creation.{Creation};
 ghost use Rattle.vd_model.specs.Acts.{Act, state_acts};
 ghost use Rattle.vd_model.specs.BusTurns.{attached_turn, irqs_turn, vqnum_turn};
-ghost use Rattle.vd_state.specs.Kept.{CountsWithin};
+ghost use Rattle.vd_state.specs.Kept.{CountsWithin, GenerationCanRise};
 ghost use Rattle.vd_state.specs.Stands.{subject};
 ghost use Rattle.vd_answers.specs.Tells.{Tells};
 ghost use Rattle.vd_state_lines.specs.After.{StateBefore, StateAfter};
@@ -27,11 +27,12 @@ fn index_of(on: QueueOrConfig) -> Option<u32>
 
 /// Chooses a queue's size; no size is above 32 bits.
 fn vqnum<T: Hears>(state: &mut State, queue: u32, num: u64, told: &mut T)
-    requires { T.is_ready told.old }
+    requires ready { T.is_ready told.old }
+    requires room { GenerationCanRise state.old queue }
     ensures line { (made : Creation) (acts : List Act) → StateBefore made acts state.old →
         Tells (λ said. T.heard told.old said told.new) (vqnum_turn made (state_acts acts) queue num)
         (StateAfter made acts state.new) }
-    ensures counts { (most : ℕ) → CountsWithin most state.old → CountsWithin most state.new }
+    ensures counts { (most : ℕ) → CountsWithin most state.old → CountsWithin (most + 1) state.new }
 {
     match u32::try_from(num) {
         Ok(num) => tell(told, state.set_num(queue, num)),

@@ -10,6 +10,3 @@ mod node;
 
 pub use bus::bus_line;
 pub use node::node_line;
-
-#[cfg(test)]
-mod tests;

@@ -5,4 +5,4 @@ use Rattle.vd_state.specs.Kept.{queue_after_reset}
 use Rattle.vd_state.proofs.queue.clear_all.Goals as goal
 
 pub loop-queue-preserved : goal.loop-queue-preserved
-loop-queue-preserved c = grind (arith, common_steps, map_over_more queue_after_reset, c.fresh.ensures)
+loop-queue-preserved c = grind (arith, common_steps, map_over_more queue_after_reset, c.cleared.ensures)

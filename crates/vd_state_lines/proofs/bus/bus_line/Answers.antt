@@ -27,20 +27,11 @@ returns-in-GetStatus-clause-line g c = λ made acts s. tells_by (ap (attached_tu
 pub returns-in-VqNum-clause-line : goal.returns-in-VqNum-clause-line
 returns-in-VqNum-clause-line g c = λ made acts s. tells_as (ap (attached_turn made c.args.now acts) c.in-VqNum.is) (c.vqnum.ensures.line made acts s)
 
-pub returns-in-VqNum-clause-counts : goal.returns-in-VqNum-clause-counts
-returns-in-VqNum-clause-counts g c = λ most w. counted_more most _ (c.vqnum.ensures.counts most w)
-
 pub returns-in-VqAddr-clause-line : goal.returns-in-VqAddr-clause-line
 returns-in-VqAddr-clause-line g c = λ made acts s. does_line made acts _ _ c.set_addr.result _ (ap (attached_turn made c.args.now acts) c.in-VqAddr.is ∙ vqaddr_tests made c.in-VqAddr.queue c.in-VqAddr.desc c.in-VqAddr.driver c.in-VqAddr.device) c.tell-in-VqAddr.ensures refl (c.set_addr.ensures.does (shape_of made) (state_acts acts) s)
 
-pub returns-in-VqAddr-clause-counts : goal.returns-in-VqAddr-clause-counts
-returns-in-VqAddr-clause-counts g c = λ most w. counted_more most _ (c.set_addr.ensures.counts most w)
-
 pub returns-in-VqReady-clause-line : goal.returns-in-VqReady-clause-line
 returns-in-VqReady-clause-line g c = λ made acts s. does_line made acts _ _ c.set_ready.result _ (ap (attached_turn made c.args.now acts) c.in-VqReady.is) c.tell-in-VqReady.ensures refl (c.set_ready.ensures.does (shape_of made) (state_acts acts) s)
-
-pub returns-in-VqReady-clause-counts : goal.returns-in-VqReady-clause-counts
-returns-in-VqReady-clause-counts g c = λ most w. counted_more most _ (c.set_ready.ensures.counts most w)
 
 pub returns-in-SetVqState-clause-line : goal.returns-in-SetVqState-clause-line
 returns-in-SetVqState-clause-line g c = λ made acts s. does_line made acts _ _ c.set_avail.result _ (ap (attached_turn made c.args.now acts) c.in-SetVqState.is) c.tell-in-SetVqState.ensures refl (c.set_avail.ensures.does (shape_of made) (state_acts acts) s)

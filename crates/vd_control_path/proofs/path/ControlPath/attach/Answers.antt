@@ -38,6 +38,7 @@ returns-clause-line g c = λ made done s.
         config = record { bytes = s.config.bytes; size = s.config.size };
         opened = s.opened;
         sessions = s.sessions;
+        closings = s.closings;
         attached = refl;
       };
     })

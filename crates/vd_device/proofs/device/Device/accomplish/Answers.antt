@@ -1,6 +1,7 @@
 use Rattle.std.proofs.Common.{subst, sym, ap, ◌∙◌, ◌++◌}
 use Rattle.vd_model.specs.Acts.{state_acts}
 use Rattle.vd_model.specs.BusTurns.{shape_of, asks_reset}
+use Rattle.vd_control_path.proofs.Parts.{within_more}
 use Rattle.vd_device.specs.Stands.{Stands}
 use Rattle.vd_device.specs.Ends.{done_acts}
 use Rattle.vd_device.proofs.Taken.{done_some, done_status, stored}
@@ -18,4 +19,7 @@ returns-in-Status-clause-stands c = λ x made acts m s.
     (sym (done_status c.in-Status.value (ap asks_reset (sym c.in-Status.is) ∙ sym c.asks_reset.ensures ∙ c.if-asks_reset.false))) kept)
 
 pub returns-in-Status-clause-path : goal.returns-in-Status-clause-path
-returns-in-Status-clause-path c = λ most w. record { state = c.set_status.ensures.counts most w.state; sessions = w.sessions }
+returns-in-Status-clause-path c = λ most w. within_more most _ (record { state = c.set_status.ensures.counts most w.state; sessions = w.sessions; closings = w.closings })
+
+pub returns-in-VqState-clause-path : goal.returns-in-VqState-clause-path
+returns-in-VqState-clause-path c = λ most w. within_more most _ w

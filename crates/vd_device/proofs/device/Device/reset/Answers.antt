@@ -21,3 +21,6 @@ returns-clause-line g c = λ x made acts m s.
     let broken : is_broken (message_acts acts) ≡ false = sym (c.broken.ensures device_start (message_acts acts) s.path.messages) ∙ c.if-broken.false in
     may_tell_as (ap (λ b. if b then record { answer = Err Io; acts = State Cleared ∷ [] } else send_turn c.args.now acts (body.Status 0)) broken)
     (may_tell_over c.send.result (λ more a. path_line _ more s (path.message_line c.send.new.messages more s.path a)) (c.send.ensures.line acts s.path.messages))
+
+pub returns-clause-path : goal.returns-clause-path
+returns-clause-path g c = λ most w. path.within_more most _ (record { state = w.state; sessions = w.sessions; closings = w.closings })

@@ -5,6 +5,7 @@ use Rattle.vd_model.specs.BusTurns.{device_start, take_turn}
 use Rattle.vd_answers.proofs.Telling.{tells_by}
 use Rattle.vd_device.specs.Stands.{Stands}
 use Rattle.vd_device.proofs.Taken.{took_by, left_by, done_is, failed_is, done_says}
+use Rattle.vd_control_path.proofs.Parts.{within_more}
 use Rattle.vd_device.proofs.device.Device.take.Goals as goal
 
 pub returns-in-Pending-clause-line : goal.returns-in-Pending-clause-line
@@ -39,10 +40,16 @@ returns-in-FailedByTimeout-clause-line g c = λ x made acts m s.
     (subst (λ l. Stands x made l c.fail-in-FailedByTimeout.new.self m) (sym (failed_is c.args.id c.in-FailedByTimeout.body acts)) (c.fail-in-FailedByTimeout.ensures.stands x made (Message_act (Took c.args.id) ∷ acts) m taken))
 
 pub returns-in-Done-clause-path : goal.returns-in-Done-clause-path
-returns-in-Done-clause-path g c = λ most w. c.accomplish.ensures.path most (record { state = w.state; sessions = w.sessions })
+returns-in-Done-clause-path g c = λ most w. c.accomplish.ensures.path most (record { state = w.state; sessions = w.sessions; closings = w.closings })
 
 pub returns-in-FailedByReply-clause-path : goal.returns-in-FailedByReply-clause-path
-returns-in-FailedByReply-clause-path g c = λ most w. c.fail.ensures.path most (record { state = w.state; sessions = w.sessions })
+returns-in-FailedByReply-clause-path g c = λ most w. c.fail.ensures.path most (record { state = w.state; sessions = w.sessions; closings = w.closings })
 
 pub returns-in-FailedByTimeout-clause-path : goal.returns-in-FailedByTimeout-clause-path
-returns-in-FailedByTimeout-clause-path g c = λ most w. c.fail-in-FailedByTimeout.ensures.path most (record { state = w.state; sessions = w.sessions })
+returns-in-FailedByTimeout-clause-path g c = λ most w. c.fail-in-FailedByTimeout.ensures.path most (record { state = w.state; sessions = w.sessions; closings = w.closings })
+
+pub returns-in-Pending-clause-path : goal.returns-in-Pending-clause-path
+returns-in-Pending-clause-path g c = λ most w. within_more most _ (record { state = w.state; sessions = w.sessions; closings = w.closings })
+
+pub returns-in-Unknown-clause-path : goal.returns-in-Unknown-clause-path
+returns-in-Unknown-clause-path g c = λ most w. within_more most _ (record { state = w.state; sessions = w.sessions; closings = w.closings })
