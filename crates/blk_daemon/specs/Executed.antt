@@ -1,5 +1,5 @@
 -- What a request does to the image that its device's disk is a part of.
-use Rattle.std.specs.Prelude.{ℕ, ◌≡◌, ◌+◌, ◌*◌, ◌<◌, List, slice_index, Bool, true, if◌then◌else◌, Option, Some, IsSome}
+use Rattle.std.specs.Prelude.{ℕ, ◌≡◌, ◌+◌, ◌*◌, ◌<◌, ◌≤◌, List, slice_index, Bool, true, if◌then◌else◌, Option, Some, IsSome}
 use Rattle.std.specs.Option.{ForSome, option_map}
 use Rattle.vd_io.specs.Told.{Rose}
 use Rattle.vd_io.specs.Sectors.{with_sectors}
@@ -7,6 +7,7 @@ use Rattle.vd_model.specs.declared.memory.Window.{Window}
 use Rattle.vd_model.specs.Queues.{Execution}
 use Rattle.vd_model.specs.Block.{Block, Disk, RequestResult, block_of, result_of}
 use Rattle.vd_model.specs.DaemonTurns.{Hand}
+use Rattle.blk_daemon.specs.declared.disk.Executed.{Executed}
 use Rattle.blk_daemon.specs.Held.{Held, to_execute}
 
 -- a request of a type that leaves so many bytes for the answer before the status
@@ -31,18 +32,20 @@ pub record Ends (old new : Option (List ℕ)) (window : Window) (b : Block) (res
   pub after : new ≡ option_map (content_after window b result) old
 
 -- a request was carried out on a window of an image: it ended as on each disk that is this window, the image failing in it
--- only where its count of faults rose, and a flush succeeding only where its count of flushes rose
-pub record Executes {I : Type 0} (content : I → Option (List ℕ)) (faults flushes : I → ℕ) (window : Window) (offered : ℕ) (name : List ℕ) (b : Block) (old new : I) (end : Execution) : Type 0 where
-  pub failed : Bool
+-- or not, which it did only where its count of faults rose; a flush succeeded only where its count of flushes rose
+pub record Executes {I : Type 0} (content : I → Option (List ℕ)) (faults flushes : I → ℕ) (window : Window) (offered : ℕ) (name : List ℕ) (b : Block) (failed : Bool) (old new : I) (end : Execution) : Type 0 where
   pub cause : failed ≡ true → Rose (faults old) (faults new)
   pub ends : (disk : Disk) → IsDisk (content old) window offered name disk → Ends (content old) (content new) window b (result_of disk b failed) end
   pub flushed : b.kind ≡ 4 → end.status ≡ 0 → Rose (flushes old) (flushes new)
+  -- neither count falls
+  pub more_faults : faults old ≤ faults new
+  pub more_flushes : flushes old ≤ flushes new
 
--- the request in hand was carried out, its outcome is kept, and its status answered
-pub record IsExecuted {I : Type 0} (content : I → Option (List ℕ)) (faults flushes : I → ℕ) (window : Window) (offered : ℕ) (held : Held) (old : I) (after : Held) (new : I) (status : ℕ) : Type 0 where
+-- the request in hand was carried out and its outcome is kept; its status is answered, and whether the image failed
+pub record IsExecuted {I : Type 0} (content : I → Option (List ℕ)) (faults flushes : I → ℕ) (window : Window) (offered : ℕ) (held : Held) (old : I) (after : Held) (new : I) (executed : Executed) : Type 0 where
   pub hand : Hand
   pub outcome : Execution
   pub in_hand : to_execute held.request ≡ Some hand
   pub kept : after ≡ record held { request = Some (record { hand = hand; outcome = Some outcome }) }
-  pub answered : status ≡ outcome.status
-  pub executes : Executes content faults flushes window offered held.name (block_of hand.bytes hand.writable) old new outcome
+  pub answered : executed.status ≡ outcome.status
+  pub executes : Executes content faults flushes window offered held.name (block_of hand.bytes hand.writable) executed.failed old new outcome

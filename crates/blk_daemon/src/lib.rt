@@ -13,6 +13,7 @@ mod queue;
 mod request;
 
 pub use blk_proto::{Header, Window};
+pub use disk::Executed;
 pub use error::{FetchError, FinishError, NoRequest};
 pub use finish::Finished;
 pub use queue::BlkQueue;

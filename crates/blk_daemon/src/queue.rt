@@ -2,6 +2,7 @@
 ghost use Rattle.std.specs.Prelude.{◌≡◌, ◌≢◌, ◌<◌, ◌≤◌, ◌+◌, ◌↔◌, Some, None, Err, IsErr, IsSome, OnOk, OnErr, IfOk};
 ghost use Rattle.std.specs.Option.{option_map, option_copied, ForSome};
 ghost use Rattle.vd_model.specs.Creation.{has_feature};
+ghost use Rattle.vd_model.specs.Rings.{number16, used_index_at};
 ghost use Rattle.vr_split.specs.Reach.{KeepsReach};
 ghost use Rattle.blk_daemon.specs.Errors.{IsUnlessMemory};
 ghost use Rattle.blk_daemon.specs.Fetched.{fetched_of, held_given, held_with, with_event_of, TakesUp};
@@ -12,7 +13,7 @@ ghost use Rattle.vr_device.specs.Side.{Side};
 ghost use Rattle.blk_daemon.specs.Executed.{IsExecuted};
 ghost use Rattle.blk_daemon.specs.Finished.{Finishes, executed_in, finished_held, OnRequest};
 
-use crate::disk::Device;
+use crate::disk::{Device, Executed};
 use crate::error::{FetchError, FinishError, NoRequest};
 use crate::features::{EVENT_IDX, has_feature};
 use crate::fetch;
@@ -25,6 +26,7 @@ use vd_io::Image;
 use vd_model::{Chain, Name, RingPlace};
 use vr_device::DeviceRing;
 use vr_split::Mem;
+use vr_split::fields::used_index;
 
 /// The block daemon's side of a queue: its ring, once it has a position there, and the request in hand.
 #[derive(Drop)]
@@ -109,10 +111,14 @@ impl BlkQueue {
             M.told mem.new ≡ Some (with_event_of (has_feature features 29) self.new.side m))) }
         ensures memory_stays { OnErr result (ForSome (M.told mem.old) (λ m. M.told mem.new ≡ Some m)) }
         ensures memory { KeepsReach M.told M.span M.keeps mem.old mem.new }
+        ensures begins { self.old.side ≡ None → ForSome (M.told mem.old) (λ m.
+            IfOk (number16 m (used_index_at place)) (λ used. used < 65536)) }
     {
         if let Some(ring) = &mut self.ring {
             return fetch::take(self.alloc, mem, ring, features);
         }
+        // The used index at which the position begins is of sixteen bits.
+        mem.load16(used_index(&place))?;
         let mut ring = DeviceRing::resume(mem, place)?;
         let request = fetch::take(self.alloc, mem, &mut ring, features)?;
         self.ring = Some(ring);
@@ -141,6 +147,10 @@ impl BlkQueue {
             M.told mem.new ≡ Some (with_event_of (has_feature features 29) self.new.side m))) }
         ensures memory_stays { OnErr result (ForSome (M.told mem.old) (λ m. M.told mem.new ≡ Some m)) }
         ensures memory { KeepsReach M.told M.span M.keeps mem.old mem.new }
+
+        // A position begins at an index of sixteen bits.
+        ensures begins { self.old.request ≡ None → self.old.side ≡ None → ForSome (M.told mem.old) (λ m.
+            IfOk (number16 m (used_index_at place)) (λ used. used < 65536)) }
     {
         if self.request.is_some() {
             return Err(FetchError::Busy);
@@ -151,13 +161,13 @@ impl BlkQueue {
         Ok(fetched)
     }
 
-    /// Carries the request in hand out on a window of a disk, and answers its status.
+    /// Carries the request in hand out on a window of a disk, and answers its status and whether the disk failed at it.
     pub fn execute<I: Image>(
         &mut self,
         disk: &mut I,
         window: Window,
         offered: u64,
-    ) -> Result<u8, NoRequest>
+    ) -> Result<Executed, NoRequest>
         requires { window.first + window.count ≤ I.size disk.old }
         ensures refused { IsErr result ↔ (to_execute self.old.request ≡ None) }
         ensures stays { OnErr result (self.new ≡ self.old) }
@@ -191,6 +201,8 @@ impl BlkQueue {
         ensures done { OnOk result (self.new ≡ finished_held self.old) }
         ensures stays { OnErr result (self.new ≡ self.old) }
         ensures memory { KeepsReach M.told M.span M.keeps mem.old mem.new }
+        ensures untouched { result ≡ Err FinishError.NoRequest → mem.new ≡ mem.old }
+        ensures placed { IsSome self.old.request → IsSome self.old.side }
     {
         let Some(request) = &self.request else {
             return Err(FinishError::NoRequest);

@@ -9,7 +9,7 @@ ghost use Rattle.blk_daemon.specs.Fetched.{Shows};
 ghost use Rattle.blk_daemon.specs.Finished.{answer_bytes};
 ghost use Rattle.vd_model.specs.Trace.{writable_len};
 
-use crate::disk::{Device, execute, header_of};
+use crate::disk::{Device, Executed, execute, header_of};
 use blk_proto::Header;
 use std::marker::Model;
 use vd_io::Image;
@@ -102,17 +102,17 @@ impl Request {
         self.answer.as_slice()
     }
 
-    /// Carries it out, and answers the status.
-    pub fn execute<I: Image>(&mut self, disk: &mut I, device: &Device) -> u8
+    /// Carries it out, and answers how it ended.
+    pub fn execute<I: Image>(&mut self, disk: &mut I, device: &Device) -> Executed
         requires fresh { self.old.outcome ≡ None }
         requires window { device.now.window.first + device.now.window.count ≤ I.size disk.old }
-        ensures executed { (end : Execution) × (self.new ≡ record self.old { outcome = Some end }) × (result ≡ end.status)
+        ensures executed { (end : Execution) × (self.new ≡ record self.old { outcome = Some end }) × (result.status ≡ end.status)
             × Executes I.content I.faults I.flushes device.now.window device.now.offered device.now.name.now
-            (block_of self.old.hand.bytes self.old.hand.writable) disk.old disk.new end }
+            (block_of self.old.hand.bytes self.old.hand.writable) result.failed disk.old disk.new end }
         ensures size { I.size disk.new ≡ I.size disk.old }
     {
-        let status = execute(disk, device, &self.bytes, &mut self.answer);
+        let executed = execute(disk, device, &self.bytes, &mut self.answer);
         self.is_executed = true;
-        status
+        executed
     }
 }

@@ -9,7 +9,7 @@ use Rattle.vd_model.specs.Setting.{Setting}
 use Rattle.vd_model.specs.Acts.{Act}
 use Rattle.vd_model.specs.Creation.{Creation}
 use Rattle.vd_model.specs.Deeds.{Deed, On, acts_of_device, made_with}
-use Rattle.vd_instance.specs.Stands.{Stands, KeepsOthers, frames}
+use Rattle.vd_instance.specs.Stands.{Stands, IsNamed, KeepsOthers, frames}
 use Rattle.vd_engine.specs.declared.devices.Named.{Named}
 use Rattle.vd_engine.specs.Machine.{is_named, FirstIs, DeviceIs, AllStand}
 use Rattle.vd_engine.proofs.Names.{find_set_hit, find_set_miss, found_at, named_is, names_itself, set_at}
@@ -59,8 +59,8 @@ module _ (x : Setting) (done : List Deed) (ds : List Named) (m : Pool) (s : AllS
     ])
   ]
 
-  pub all_stepped : (made : Creation) (acts : List Act) → made_with name done ≡ Some made → Stands x made (acts ++ acts_of_device name done) new.instance n → AllStand x (map (On name) acts ++ done) (slice_set ds i new) n
-  all_stepped made acts with_made stands = record {
+  pub all_stepped : (made : Creation) (acts : List Act) → made_with name done ≡ Some made → Stands x made (acts ++ acts_of_device name done) new.instance n → IsNamed name new.instance → AllStand x (map (On name) acts ++ done) (slice_set ds i new) n
+  all_stepped made acts with_made stands named = record {
     each = λ other. each other (bytes_eq other name) refl;
     count = length-set ds i new ∙ s.count ∙ sym (devices_on name acts done);
     once = once;
@@ -72,7 +72,7 @@ module _ (x : Setting) (done : List Deed) (ds : List Named) (m : Pool) (s : AllS
         find_set_hit (is_named name) ds i d new there first.before (subst (λ t. bytes_eq name t ≡ true) is_new (names_itself name)) in
         let here : DeviceIs x name (map (On name) acts ++ done) (find (is_named name) (slice_set ds i new)) n =
         subst (λ o. DeviceIs x name (map (On name) acts ++ done) o n) (sym hit)
-        (record { made = made; with_that = made_on name name acts done ∙ with_made; stands = subst (λ l. Stands x made l new.instance n) (sym (acts_same name acts done)) stands }) in
+        (record { made = made; with_that = made_on name name acts done ∙ with_made; stands = subst (λ l. Stands x made l new.instance n) (sym (acts_same name acts done)) stands; named = named }) in
         subst (λ o. DeviceIs x o (map (On name) acts ++ done) (find (is_named o) (slice_set ds i new)) n) (sym (named_is other name e)) here
     each other false e =
         let was : is_named other d ≡ false = not_that x done ds m s name i d first there (frames new.instance) n keeps.kept other e in

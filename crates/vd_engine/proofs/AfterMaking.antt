@@ -9,7 +9,7 @@ use Rattle.vd_model.specs.Setting.{Setting}
 use Rattle.vd_model.specs.Acts.{Act}
 use Rattle.vd_model.specs.Creation.{Creation}
 use Rattle.vd_model.specs.Deeds.{Deed, Made, On, acts_of_device, made_with}
-use Rattle.vd_instance.specs.Stands.{Stands, IsHeld, frames}
+use Rattle.vd_instance.specs.Stands.{Stands, IsHeld, IsNamed, frames}
 use Rattle.vd_engine.specs.declared.devices.Named.{Named}
 use Rattle.vd_engine.specs.Machine.{is_named, NoneIs, DeviceIs, AllStand}
 use Rattle.vd_engine.proofs.Names.{find_push_hit, find_push_miss, missed_at, named_is, names_itself, pushed_at}
@@ -34,8 +34,8 @@ module _ (x : Setting) (done : List Deed) (ds : List Named) (m : Pool) (s : AllS
     ])
   ]
 
-  pub all_made : (made : Creation) (acts : List Act) → Stands x made acts new.instance m → AllStand x (map (On name) acts ++ Made name made ∷ done) (ds ++ new ∷ []) m
-  all_made made acts stands = record {
+  pub all_made : (made : Creation) (acts : List Act) → Stands x made acts new.instance m → IsNamed name new.instance → AllStand x (map (On name) acts ++ Made name made ∷ done) (ds ++ new ∷ []) m
+  all_made made acts stands named = record {
     each = λ other. each other (bytes_eq other name) refl;
     count = length-append ds (new ∷ []) ∙ ap (λ n. n + 1) s.count ∙ sym (devices_on name acts (Made name made ∷ done));
     once = once;
@@ -55,7 +55,7 @@ module _ (x : Setting) (done : List Deed) (ds : List Named) (m : Pool) (s : AllS
         let is : is_named name new ≡ true = subst (λ t. bytes_eq name t ≡ true) (sym same) (names_itself name) in
         let here : DeviceIs x name (map (On name) acts ++ Made name made ∷ done) (find (is_named name) (ds ++ new ∷ [])) m =
         subst (λ o. DeviceIs x name (map (On name) acts ++ Made name made ∷ done) o m) (sym (find_push_hit (is_named name) ds new none is))
-        (record { made = made; with_that = its_making; stands = subst (λ l. Stands x made l new.instance m) (sym (its_acts ∙ append-nil acts)) stands }) in
+        (record { made = made; with_that = its_making; stands = subst (λ l. Stands x made l new.instance m) (sym (its_acts ∙ append-nil acts)) stands; named = named }) in
         subst (λ o. DeviceIs x o (map (On name) acts ++ Made name made ∷ done) (find (is_named o) (ds ++ new ∷ [])) m) (sym (named_is other name e)) here
     each other false e =
         let is : is_named other new ≡ false = subst (λ t. bytes_eq other t ≡ false) (sym same) e in

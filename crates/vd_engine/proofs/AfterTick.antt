@@ -50,7 +50,7 @@ module _ (x : Setting) (done : List Deed) (old new : List Named) (m : Pool) (now
   each name None None h that = that
   each name None (Some d) h that = absurd h
   each name (Some c) None h that = absurd h
-  each name (Some c) (Some d) h that = record { made = that.made; with_that = that.with_that; stands = h.stands x that.made (acts_of_device name done) m that.stands }
+  each name (Some c) (Some d) h that = record { made = that.made; with_that = that.with_that; stands = h.stands x that.made (acts_of_device name done) m that.stands; named = h.named name that.named }
 
   module _ (i : ℕ) (d : Named) (at : slice_get new i ≡ Some d) where
     before : (c : Named) × (slice_get old i ≡ Some c)

@@ -70,6 +70,8 @@ stands_beside {x} {made} {acts} {m} i old new n held apart keeps s = record {
   places = s.places;
   apart = s.apart;
   sizes = s.sizes;
+  daemons = s.daemons;
+  count = s.count;
 }
 
 pub held_beside : {m : Pool} (i : Instance) (old new : List (Option ℕ)) (n : Pool) → IsHeld i m → AreApart (frames i) old → Keeps old new m n → IsHeld i n

@@ -40,9 +40,11 @@ within_same {x} {made} {acts} i j most s t w =
         state = record {
           kicks = all_same (λ (q : Queue). unwrap_or q.kicks 0 ≤ most) _ _ (queue_of (state_acts acts)) len here there w.path.state.kicks;
           queues = all_same (λ (q : Queue). q.interrupts ≤ most) _ _ (queue_of (state_acts acts)) len here there w.path.state.queues;
+          generations = all_same (λ (q : Queue). q.generation ≤ most) _ _ (queue_of (state_acts acts)) len here there w.path.state.generations;
           config = subst (λ k. k ≤ most) (a.interrupts ∙ sym b.interrupts) w.path.state.config;
         };
         sessions = subst (λ k. k ≤ most) (s.device.path.sessions ∙ sym t.device.path.sessions) w.path.sessions;
+        closings = subst (λ k. k ≤ most) (s.device.path.closings ∙ sym t.device.path.closings) w.path.closings;
       };
       maps = subst (λ k. k ≤ most) (s.device.memory.domain.maps ∙ sym t.device.memory.domain.maps) w.maps;
       regions = subst (λ k. k ≤ most) (s.device.memory.domain.made ∙ sym t.device.memory.domain.made) w.regions;

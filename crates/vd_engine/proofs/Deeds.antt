@@ -44,6 +44,7 @@ device_moves x name done later (Some c) m n with_made acts moves h = record {
   made = h.made;
   with_that = with_made ∙ h.with_that;
   stands = subst (λ l. Stands x h.made l c.instance n) (sym acts) (moves c refl h.made (acts_of_device name done) h.stands);
+  named = h.named;
 }
 
 -- the first of the name stands

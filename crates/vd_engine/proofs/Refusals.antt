@@ -1,8 +1,9 @@
 -- Refusals of the control node.
-use Rattle.std.proofs.Common.{◌≡◌, ℕ, zero, suc, ◌<◌, ◌≤◌, Bool, true, false, refl, ap, subst, ◌∙◌, sym, arith, Option, None, Some, List, [], ◌∷◌, length, nat_le, nat_lt, not, ◌==◌, ◌^◌, MatchOption, true≢false, Result}
+use Rattle.std.proofs.Common.{◌≡◌, ℕ, zero, suc, ◌+◌, ◌<◌, ◌≤◌, Bool, true, false, refl, ap, subst, ◌∙◌, sym, arith, Option, None, Some, List, [], ◌∷◌, length, find, nat_le, nat_lt, not, ◌==◌, ◌^◌, MatchOption, true≢false, Result}
 use Rattle.std.proofs.Common.{Err as Wrong}
 use Rattle.std.specs.Prelude.{is_some, IsTrue, ◌↔◌}
-use Rattle.std.specs.List.{slice_get}
+use Rattle.std.specs.List.{slice_get, list_any}
+use Rattle.std.specs.Option.{option_map}
 use Rattle.std.proofs.lemmas.Bool.Decides.{nat_tests}
 use Rattle.vd_num.specs.declared.errno.Errno.TheVariants.{Exist, Nospc, Nodev, Busy, Inval}
 use Rattle.vd_num.specs.declared.errno.Errno.{Errno}
@@ -17,10 +18,14 @@ use Rattle.vd_abi.specs.Structs.{is_dev_config, dev_config, is_dev_name, dev_nam
 use Rattle.vd_control.specs.Checks.{is_refused}
 use Rattle.vd_model.specs.declared.step.ControlStep.TheVariants as control
 use Rattle.vd_model.specs.Raw.{some_if, name_in, config_step, control_step}
-use Rattle.vd_model.specs.Deeds.{Deed, Made, Destroyed, Passed, made_with, has_device, devices}
-use Rattle.vd_model.specs.ControlTurns.{Outcome, create_outcome, tick_outcome, raw_outcome, refuse_outcome, refusal_outcome, done_outcome, new_or, destroy_outcome, is_device_in_use}
+use Rattle.vd_model.specs.declared.memory.Window.{Window}
+use Rattle.vd_model.specs.Deeds.{Deed, Made, Destroyed, Given, Passed, made_with, has_device, devices, window_of, is_given}
+use Rattle.vd_model.specs.ControlTurns.{Outcome, create_outcome, tick_outcome, raw_outcome, refuse_outcome, refusal_outcome, done_outcome, new_or, destroy_outcome, is_device_in_use, image_outcome}
 use Rattle.vd_engine.specs.declared.devices.Named.{Named}
-use Rattle.vd_engine.specs.Machine.{NoneIs, FirstIs, DeviceIs, AllStand}
+use Rattle.vd_engine.specs.declared.windows.Given.{Given as Holding}
+use Rattle.vd_engine.specs.declared.engine.Engine.{Engine}
+use Rattle.vd_engine.specs.Windows.{given_window, has_window, meets}
+use Rattle.vd_engine.specs.Machine.{NoneIs, FirstIs, DeviceIs, AllStand, StandsAt}
 use Rattle.vd_engine.proofs.Deeds.{found_stands}
 
 pub none_of : (P : Type 0) (Q : ℕ → Type 0) (o : Option ℕ) → MatchOption o P Q → is_some o ≡ false → P
@@ -72,6 +77,60 @@ module _ (x : Setting) (done : List Deed) (ds : List Named) (m : Pool) (s : AllS
   destroy_is i first used e =
       ap (λ b. refuse_outcome (refusal_if (not b) Nodev) (refuse_outcome (refusal_if (is_device_in_use name done) Busy) (done_outcome [] (Destroyed name ∷ [])))) (has_that i first)
       ∙ ap (λ b. refuse_outcome (refusal_if b Busy) (done_outcome [] (Destroyed name ∷ []))) e
+
+-- ---- sectors of the image
+
+has_at : (o : Option Window) (w : Option Window) → w ≡ o → (b : Bool) → is_some w ≡ b → is_some o ≡ b
+has_at o w e b f = ap is_some (sym e) ∙ f
+
+module _ (x : Setting) (done : List Deed) (e : Engine) (s : StandsAt x done e.asked e) (name : List ℕ) (first count : ℕ) where
+  image_by : (a b c d f : Bool) → has_device name done ≡ a → is_some (window_of name done) ≡ b → (count == 0) ≡ c → nat_lt x.sectors (first + count) ≡ d → is_given first count done ≡ f
+      → image_outcome x done name first count
+      ≡ refuse_outcome (refusal_if (not a) Nodev) (refuse_outcome (refusal_if b Exist) (refuse_outcome (refusal_if c Inval) (refuse_outcome (refusal_if d Nospc)
+      (refuse_outcome (refusal_if f Busy) (done_outcome [] (Given name (record { first = first; count = count }) ∷ []))))))
+  image_by a b c d f p q r t u = rw (p, q, r, t, u) refl
+
+  pub image_absent : NoneIs name e.devices.items → image_outcome x done name first count ≡ refusal_outcome Nodev
+  image_absent none = image_by false (is_some (window_of name done)) (count == 0) (nat_lt x.sectors (first + count)) (is_given first count done)
+      (has_none x done e.devices.items e.pool s.devices name none) refl refl refl refl
+
+  module _ (i : ℕ) (there : FirstIs name e.devices.items i) where
+    here : has_device name done ≡ true
+    here = has_that x done e.devices.items e.pool s.devices name i there
+
+    module _ (w : Option Window) (is : w ≡ option_map given_window (find (has_window name) e.windows.items)) where
+      has : (b : Bool) → is_some w ≡ b → is_some (window_of name done) ≡ b
+      has b f = has_at (window_of name done) w (is ∙ s.windows.window name) b f
+
+      pub image_had : is_some w ≡ true → image_outcome x done name first count ≡ refusal_outcome Exist
+      image_had f = image_by true true (count == 0) (nat_lt x.sectors (first + count)) (is_given first count done) here (has true f) refl refl refl
+
+      module _ (free : is_some w ≡ false) where
+        pub image_empty : count ≡ 0 → image_outcome x done name first count ≡ refusal_outcome Inval
+        image_empty f = image_by true false true (nat_lt x.sectors (first + count)) (is_given first count done) here (has false free) (ap (λ n. n == 0) f) refl refl
+
+        module _ (some : 0 < count) where
+          not_empty : (count == 0) ≡ false
+          not_empty = grind (arith, nat_tests)
+
+          past : (b : Bool) → nat_lt e.sectors (first + count) ≡ b → nat_lt x.sectors (first + count) ≡ b
+          past b f = ap (λ n. nat_lt n (first + count)) (sym s.sectors) ∙ f
+
+          pub image_beyond : nat_lt e.sectors (first + count) ≡ true → image_outcome x done name first count ≡ refusal_outcome Nospc
+          image_beyond f = image_by true false false true (is_given first count done) here (has false free) not_empty (past true f) refl
+
+          module _ (within : nat_lt e.sectors (first + count) ≡ false) where
+            pub image_met : list_any (meets first count) e.windows.items ≡ true → image_outcome x done name first count ≡ refusal_outcome Busy
+            image_met f = image_by true false false false true here (has false free) not_empty (past false within) (sym (s.windows.taken first count) ∙ f)
+
+            pub image_free : list_any (meets first count) e.windows.items ≡ false
+                → image_outcome x done name first count ≡ done_outcome [] (Given name (record { first = first; count = count }) ∷ [])
+            image_free f = image_by true false false false false here (has false free) not_empty (past false within) (sym (s.windows.taken first count) ∙ f)
+
+-- no window is found
+pub unfound : (o : Option Holding) (w : Option Window) → w ≡ option_map given_window o → is_some w ≡ false → o ≡ None
+unfound None w is free = refl
+unfound (Some g) w is free = absurd (true≢false (ap is_some (sym is) ∙ free))
 
 -- ---- the clock
 

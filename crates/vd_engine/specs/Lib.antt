@@ -1,4 +1,6 @@
 -- The words of this crate's contracts.
+pub mod Windows
+pub mod Image
 pub mod Machine
 pub mod Does
 pub mod Frugal

@@ -8,9 +8,10 @@ use Rattle.vd_model.specs.Creation.{Creation}
 use Rattle.vd_model.specs.Deeds.{Deed, acts_of_device, made_with, devices, clock}
 use Rattle.vd_model.specs.History.{History, deeds_of}
 use Rattle.vd_device.specs.Sizes.{AreFit, IsSized}
-use Rattle.vd_instance.specs.Stands.{Stands, IsHeld, IsWithin, frames}
+use Rattle.vd_instance.specs.Stands.{Stands, IsHeld, IsNamed, IsWithin, frames}
 use Rattle.vd_engine.specs.declared.devices.Named.{Named}
 use Rattle.vd_engine.specs.declared.engine.Engine.{Engine}
+use Rattle.vd_engine.specs.Windows.{HasWindows}
 
 abbrev pub is_named : List ℕ → Named → Bool
 is_named name d = bytes_eq name d.name
@@ -30,6 +31,7 @@ pub record IsThat (x : Setting) (name : List ℕ) (done : List Deed) (d : Named)
   pub made : Creation
   pub with_that : made_with name done ≡ Some made
   pub stands : Stands x made (acts_of_device name done) d.instance m
+  pub named : IsNamed name d.instance
 
 -- what is found under a name stands for that name's acts
 abbrev pub DeviceIs : Setting → List ℕ → List Deed → Option Named → Pool → Type 0
@@ -56,6 +58,8 @@ pub record AllStand (x : Setting) (done : List Deed) (ds : List Named) (m : Pool
 pub record StandsAt (x : Setting) (done : List Deed) (most : ℕ) (e : Engine) : Type 0 where
   pub sizes : IsSized x e.sizes
   pub fit : AreFit e.sizes
+  pub sectors : e.sectors ≡ x.sectors
+  pub windows : HasWindows done e.sectors e.windows.items
   pub page : e.pool.per_page ≡ e.sizes.per_page
   pub now : e.now ≡ clock done
   pub devices : AllStand x done e.devices.items e.pool
@@ -66,8 +70,8 @@ pub record StandsFor (x : Setting) (h : History) (e : Engine) : Type 0 where
   pub asked : e.asked ≡ length h
   pub stands : StandsAt x (deeds_of x h) e.asked e
 
--- some history is that which it stands for
+-- it stands for something that was done
 pub record IsReached (e : Engine) : Type 0 where
   pub setting : Setting
-  pub history : History
-  pub stands : StandsFor setting history e
+  pub done : List Deed
+  pub stands : StandsAt setting done e.asked e

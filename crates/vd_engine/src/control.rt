@@ -1,8 +1,6 @@
 //! Lines of the control node.
 
-ghost use Rattle.std.specs.Prelude.{◌≡◌, ◌<◌, ◌^◌, true};
 ghost use Rattle.vd_model.specs.ControlTurns.{control_outcome, create_outcome, destroy_outcome, dev_outcome};
-ghost use Rattle.vd_output.specs.Served.{control_served};
 
 use crate::devices::{Named, check_new, place_of};
 use crate::engine::Engine;
@@ -10,8 +8,8 @@ use std::alloc::AllocError;
 use vd_abi::DevConfig;
 use vd_answers::{Hears, tell};
 use vd_control::{check_config, check_version};
-use vd_instance::Instance;
-use vd_model::{ControlStep, Item, Tag};
+use vd_instance::{Instance, Offer};
+use vd_model::{ControlStep, Item, Tag, Window};
 use vd_num::{Bytes, Errno, Name};
 
 impl Engine {
@@ -26,7 +24,6 @@ impl Engine {
     ) -> Result<(), AllocError>
         requires ready { T.is_ready told.old }
         requires reached { IsReached self.old }
-        requires served { control_served step.now ≡ true }
         ensures { MayDo (λ said. T.heard told.old said told.new)
             (λ x done. control_outcome x done step.now)
             self.old self.new result }
@@ -70,7 +67,13 @@ impl Engine {
                 self.tick(*seconds, told);
                 Ok(())
             }
-            ControlStep::Image { .. } => unreachable!(),
+            ControlStep::Image { name, first, count } => {
+                let window = Window {
+                    first: *first,
+                    count: *count,
+                };
+                self.image(name.as_slice(), window, told)
+            }
         }
     }
 
@@ -108,7 +111,12 @@ impl Engine {
             config,
             ..
         } = config;
-        let instance = Instance::new(self.alloc, features, vq_num, config, self.sizes)?;
+        let offer = Offer {
+            features,
+            queues: vq_num,
+            config,
+        };
+        let instance = Instance::new(self.alloc, name.as_slice(), offer, self.sizes)?;
         self.devices.push_reserved(Named { name, instance });
         told.done();
         Ok(())
@@ -131,7 +139,7 @@ impl Engine {
         }
         let name = Name::from_vec(Vec::from_slice(self.alloc, name)?);
         self.devices.reserve(1)?;
-        let instance = Instance::ready(self.alloc, self.sizes)?;
+        let instance = Instance::ready(self.alloc, name.as_slice(), self.sizes)?;
         self.devices.push_reserved(Named { name, instance });
         told.fields(&[Item::Word(Tag::Session), Item::Number(0)]);
         Ok(())

@@ -9,11 +9,12 @@ mod clock;
 mod control;
 mod devices;
 mod engine;
+mod image;
 mod lines;
 mod raw;
-#[cfg(test)]
-mod tests;
+mod windows;
 
 pub use devices::Named;
 pub use engine::{Engine, Stepped};
 pub use vd_device::Sizes;
+pub use windows::Given;

@@ -22,6 +22,7 @@ use Rattle.vd_domain.specs.Stands as domain
 use Rattle.vd_queue_sides.specs.Chains.{is_ring_act}
 use Rattle.vd_ring_lines.specs.declared.held.HeldRing.{HeldRing}
 use Rattle.vd_ring_lines.specs.Stands.{leaves_ring}
+use Rattle.vd_instance.proofs.Holding.{leaves_daemon}
 
 pub both_of : (a b : Bool) → (a && b) ≡ true → (a ≡ true) × (b ≡ true)
 both_of true b e = (refl, e)
@@ -135,6 +136,31 @@ module _ (may : ℕ → Bool) (q : ℕ) where
         inside = subst (λ ms. All (IsInside (acts ++ done)) ms) (sym (same_maps acts done e))
             (stay_inside done (acts ++ done) (live_mappings done) (λ b size there. sym (kept.lens b) ∙ s.buffers.lens b ∙ there) s.inside);
       }
+
+-- ---- the block daemons
+
+module _ (may : ℕ → Bool) (q k : ℕ) where
+  queue_serves : (act : QueueAct) → is_queue_deed q act ≡ true → leaves_daemon k (Queue act) ≡ true
+  queue_serves (Ring_made t place region) e = refl
+  queue_serves (Ring_dropped t) e = refl
+  queue_serves (Chain_added t chain) e = refl
+  queue_serves (Chains_published t) e = refl
+  queue_serves (Chain_reclaimed t head) e = refl
+  queue_serves (Fetched t) e = no e
+  queue_serves (Executed t status bytes) e = no e
+  queue_serves (Finished t) e = no e
+
+  deed_serves : (act : Act) → is_deed may q act ≡ true → leaves_daemon k act ≡ true
+  deed_serves (Queue act) e = queue_serves act e
+  deed_serves (Driver act) e = refl
+  deed_serves (Node act) e = no e
+  deed_serves (Bus act) e = no e
+  deed_serves (Message_act act) e = no e
+  deed_serves (State act) e = no e
+  deed_serves (Disk_act act) e = no e
+
+  pub deeds_serve : (acts : List Act) → list_all (is_deed may q) acts ≡ true → list_all (leaves_daemon k) acts ≡ true
+  deeds_serve acts e = all_of (is_deed may q) (leaves_daemon k) deed_serves acts e
 
 -- ---- the rings of other queues
 

@@ -20,6 +20,7 @@ use Rattle.vd_instance.specs.declared.instance.Instance.{Instance}
 use Rattle.vd_instance.specs.Stands.{Stands, After, HaveOwnRegions, kept_ring}
 use Rattle.vd_instance.proofs.Calm.{is_calm, are_calm}
 use Rattle.vd_instance.proofs.Deeds.{both_of, IsSpared}
+use Rattle.vd_instance.proofs.Holding.{leaves_daemon, all_hold}
 
 -- ---- sizes
 
@@ -81,6 +82,17 @@ module _ (may : ℕ → Bool) (k : ℕ) where
   calm_leaves (Some held) free (State act) e = refl
   calm_leaves (Some held) free (Disk_act act) e = refl
 
+-- ---- the block daemons
+
+calm_daemon : (may : ℕ → Bool) (q : ℕ) (act : Act) → is_calm may act ≡ true → leaves_daemon q act ≡ true
+calm_daemon may q (Queue act) e = absurd (true≢false (sym e))
+calm_daemon may q (Node act) e = refl
+calm_daemon may q (Driver act) e = refl
+calm_daemon may q (Bus act) e = refl
+calm_daemon may q (Message_act act) e = refl
+calm_daemon may q (State act) e = refl
+calm_daemon may q (Disk_act act) e = refl
+
 -- ---- a line on the device
 
 pub device_line : {x : Setting} {made : Creation} {done : List Act} {i : Instance} {m n : Pool} (may : ℕ → Bool) (d : Device) (acts : List Act) → ((q : ℕ) → IsSpared may (kept_ring i q))
@@ -91,6 +103,8 @@ device_line {x} {made} {done} {i} may d acts free only s h = record {
   places = s.places;
   apart = own_still done (acts ++ done) (λ q. same_after (λ l. ring_of l q) (is_calm may) (no_rings may q) acts done only) s.apart;
   sizes = sizes_after may acts done only s.sizes;
+  daemons = all_hold x acts done i.daemons.items (λ q. all_of (is_calm may) (leaves_daemon q) (calm_daemon may q) acts only) s.daemons;
+  count = s.count;
 }
 
 pub device_tells : {E : Type 0} {heard : Answer → Type 0} {turn : Turn Act} {x : Setting} {made : Creation} {done : List Act} {i : Instance} {m n : Pool} (may : ℕ → Bool) (d : Device) (r : Result (Unit {0}) E)

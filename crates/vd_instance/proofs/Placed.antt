@@ -23,7 +23,10 @@ use Rattle.vd_ring_lines.specs.After as ring
 use Rattle.vd_ring_lines.proofs.Leaving.{ring_stays}
 use Rattle.vd_instance.specs.declared.instance.Instance.{Instance}
 use Rattle.vd_instance.specs.Stands.{Stands, After, kept_ring}
-use Rattle.vd_instance.proofs.Deeds.{IsSpared, deeds_leave, deeds_path, memory_stays, same_state}
+use Rattle.vd_instance.specs.declared.daemons.HeldDaemon.{HeldDaemon}
+use Rattle.vd_instance.specs.Daemons.{DaemonsHold}
+use Rattle.vd_instance.proofs.Holding.{all_hold}
+use Rattle.vd_instance.proofs.Deeds.{IsSpared, deeds_leave, deeds_serve, deeds_path, memory_stays, same_state}
 use Rattle.vd_instance.proofs.Own.{IsOwn, no_acts}
 
 -- a device whose domain is this
@@ -43,7 +46,8 @@ is_gone {x} {made} {acts} {i} s q none = elim (cases_lt q made.queues) [ inl h �
   off le = grind (arith, nat_tests, le)
 
 module _ {x : Setting} {made : Creation} {done : List Act} {i : Instance} {m : Pool} (q : ℕ) (h : Held) (kept : Option HeldRing) (j : Instance)
-    (less : q < length i.rings.items) (of : j.device ≡ with_domain i.device h) (placed : j.rings.items ≡ set i.rings.items q kept) (s : Stands x made done i m) where
+    (less : q < length i.rings.items) (of : j.device ≡ with_domain i.device h) (placed : j.rings.items ≡ set i.rings.items q kept) (same : j.daemons ≡ i.daemons)
+    (s : Stands x made done i m) where
   spared : (acts : List Act) (own : IsOwn done q acts) (k : ℕ) → (k ≡ q → ⊥) → IsSpared own.may (kept_ring i k)
   spared acts own k ne = by (kept_ring i k) refl where
     by : (o : Option HeldRing) → kept_ring i k ≡ o → IsSpared own.may o
@@ -74,6 +78,9 @@ module _ {x : Setting} {made : Creation} {done : List Act} {i : Instance} {m : P
     places = ap length placed ∙ length-set i.rings.items q kept ∙ s.places;
     apart = own.apart s.apart;
     sizes = λ k. subst (λ l. num_of l k ≤ 32768) (sym (same_state own.may q acts done own.only)) (s.sizes k);
+    daemons = subst (λ (l : List HeldDaemon). DaemonsHold x (acts ++ done) l) (sym (ap (λ v. v.items) same))
+        (all_hold x acts done i.daemons.items (λ k. deeds_serve own.may q k acts own.only) s.daemons);
+    count = ap (λ v. length v.items) same ∙ s.count;
   }
 
   pub ring_tells : {heard : Answer → Type 0} {turn : Turn Act} → IsOwn done q turn.acts → Tells heard turn (ring.After x done q h m kept) → Tells heard turn (After x made done j m)

@@ -23,6 +23,7 @@ readied {x} {made} {d} {m} k s h = record {
     config = record { bytes = s.path.config.bytes; size = s.path.config.size };
     opened = refl;
     sessions = refl;
+    closings = s.path.closings;
     attached = refl;
   };
   memory =

@@ -33,6 +33,8 @@ with_domain h s stands = record {
   places = s.places;
   apart = s.apart;
   sizes = s.sizes;
+  daemons = s.daemons;
+  count = s.count;
 }
 
 pub walk_tells : {E : Type 0} {heard : Answer → Type 0} {turn : Turn Act} {x : Setting} {made : Creation} {done : List Act} {i : Instance} {m n : Pool} (h : Held) (r : Result (Unit {0}) E) → turn.acts ≡ []

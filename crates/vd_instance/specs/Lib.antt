@@ -1,4 +1,6 @@
 -- The words of this crate's contracts.
+pub mod Daemons
+pub mod Image
 pub mod Lines
 pub mod Rings
 pub mod Stands

@@ -10,14 +10,22 @@ use Rattle.vd_model.specs.RingTurns.{unring_turn, add_turn, publish_turn, poll_t
 use Rattle.vd_model.specs.declared.step.DevStep.{DevStep}
 use Rattle.vd_model.specs.declared.step.DevStep.TheVariants.{Driver}
 use Rattle.vd_model.specs.declared.step.DriverStep.TheVariants.{FreeCoherent}
+use Rattle.vd_model.specs.DaemonTurns.{fetch_turn, finish_turn}
 use Rattle.vd_instance.specs.declared.line.RingLine.{RingLine}
 use Rattle.vd_instance.specs.declared.line.RingLine.TheVariants.{Unring, Add, Publish, Poll}
+use Rattle.vd_instance.specs.declared.service.DaemonLine.{DaemonLine}
+use Rattle.vd_instance.specs.declared.service.DaemonLine.TheVariants.{Fetch, Finish}
 
 abbrev pub ring_line_turn : Setting → Creation → List Act → ℕ → RingLine → Turn Act
 ring_line_turn x made acts q Unring = unring_turn made acts q
 ring_line_turn x made acts q (Add parts) = add_turn made acts q parts.now
 ring_line_turn x made acts q Publish = publish_turn x made acts q
 ring_line_turn x made acts q Poll = poll_turn x made acts q
+
+-- the block daemon's lines on the memory of the device
+abbrev pub daemon_line_turn : Setting → Creation → List Act → ℕ → DaemonLine → Turn Act
+daemon_line_turn x made acts q Fetch = fetch_turn x made acts q
+daemon_line_turn x made acts q Finish = finish_turn x made acts q
 
 -- a chain that is added has parts
 abbrev pub HasParts : RingLine → Type 0

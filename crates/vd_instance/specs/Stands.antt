@@ -11,6 +11,7 @@ use Rattle.vd_device.specs.Stands as device
 use Rattle.vd_ring_lines.specs.declared.held.HeldRing.{HeldRing}
 use Rattle.vd_ring_lines.specs.Stands.{RingStands}
 use Rattle.vd_instance.specs.declared.instance.Instance.{Instance}
+use Rattle.vd_instance.specs.Daemons.{DaemonsHold, AreNamed}
 
 -- what is kept of the ring of a queue, if it has one
 abbrev pub kept_ring : Instance → ℕ → Option HeldRing
@@ -20,13 +21,15 @@ kept_ring i q = slice_index_or i.rings.items q None
 abbrev pub HaveOwnRegions : List Act → Type 0
 HaveOwnRegions acts = (q k : ℕ) (r s : Ring) → ring_of acts q ≡ Some r → ring_of acts k ≡ Some s → r.region ≡ s.region → q ≡ k
 
--- there is a place for the ring of each queue, and each queue has a size that a driver may choose
+-- there are a place for the ring and a daemon of each queue, and each queue has a size that a driver may choose
 pub record Stands (x : Setting) (made : Creation) (acts : List Act) (i : Instance) (m : Pool) : Type 0 where
   pub device : device.Stands x made acts i.device m
   pub rings : (q : ℕ) → RingStands acts q (kept_ring i q)
   pub places : length i.rings.items ≡ made.queues
   pub apart : HaveOwnRegions acts
   pub sizes : (q : ℕ) → num_of (state_acts acts) q ≤ 32768
+  pub daemons : DaemonsHold x acts i.daemons.items
+  pub count : length i.daemons.items ≡ made.queues
 
 -- some acts are those that it stands for
 pub record IsReached (i : Instance) (m : Pool) : Type 0 where
@@ -59,3 +62,12 @@ After x made done i m acts = Stands x made (acts ++ done) i m
 pub record KeepsOthers (old new : Instance) (before after : Pool) : Type 0 where
   pub kept : Keeps (frames old) (frames new) before after
   pub page : page_size new ≡ page_size old
+
+-- it stands for these acts and some more
+pub record StandsForMore (x : Setting) (made : Creation) (acts : List Act) (i : Instance) (m : Pool) : Type 0 where
+  pub more : List Act
+  pub stands : Stands x made (more ++ acts) i m
+
+-- the daemons of its queues have this name
+abbrev pub IsNamed : List ℕ → Instance → Type 0
+IsNamed name i = AreNamed name i.daemons.items

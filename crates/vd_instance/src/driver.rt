@@ -22,7 +22,7 @@ use vd_ring_lines::{KnownQueue, RingWanted, ring};
 
 impl Instance {
     ghost use Rattle.vd_instance.specs.Lines.{ring_line_turn, HasParts};
-    ghost use Rattle.vd_instance.specs.Stands.{Stands, After, IsReached};
+    ghost use Rattle.vd_instance.specs.Stands.{Stands, After, IsNamed, IsReached};
 
     /// What is known of a queue, and of the events of its ring.
     fn known_queue(&self, queue: u32) -> KnownQueue
@@ -43,6 +43,7 @@ impl Instance {
             → Tells (λ said. T.heard told.old said told.new) (needs_bus acts (ring_line_turn x made acts queue line.entry)) (After x made acts self.new m) }
         ensures rest { KeepsFrames self.old.device.memory self.new.device.memory }
         ensures path { self.new.device.path ≡ self.old.device.path }
+        ensures named { (name : List ℕ) → IsNamed name self.old → IsNamed name self.new }
     {
         if !self.device.path.attached {
             return told.refused(Errno::Nodev);
@@ -68,6 +69,7 @@ impl Instance {
             → MayTell (λ said. T.heard told.old said told.new) (needs_bus acts (ring_turn x made acts queue size)) (After x made acts self.new m) result }
         ensures rest { KeepsFrames self.old.device.memory self.new.device.memory }
         ensures path { self.new.device.path ≡ self.old.device.path }
+        ensures named { (name : List ℕ) → IsNamed name self.old → IsNamed name self.new }
     {
         if !self.device.path.attached {
             told.refused(Errno::Nodev);
@@ -102,6 +104,7 @@ impl Instance {
             → MayTell (λ said. T.heard told.old said told.new) (needs_bus acts (add_turn made acts queue parts.now)) (After x made acts self.new m) result }
         ensures rest { KeepsFrames self.old.device.memory self.new.device.memory }
         ensures path { self.new.device.path ≡ self.old.device.path }
+        ensures named { (name : List ℕ) → IsNamed name self.old → IsNamed name self.new }
     {
         // A line has some parts, so none of them is answered so.
         if parts.is_empty() {

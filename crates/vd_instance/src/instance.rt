@@ -14,6 +14,7 @@ ghost use Rattle.vd_model.specs.ControlTurns.{plain_creation};
 ghost use Rattle.vd_device.specs.Sizes.{AreFit, IsSized};
 ghost use Rattle.vd_device.specs.Stands as kept;
 
+use crate::daemons::{HeldDaemon, new_daemons};
 use crate::rings::no_rings;
 use std::alloc::{AllocError, Global};
 use vd_device::{Device, Sizes};
@@ -44,48 +45,73 @@ fn make_ready(device: &mut Device)
     device.path.attached = true;
 }
 
-/// A device, and a place for the ring of each of its queues. It holds frames of a pool, so it can't be dropped.
+/// What a device is made with: its features, how many queues it has, and the bytes of its config space.
+#[derive(Drop)]
+pub struct Offer {
+    pub features: u64,
+    pub queues: u32,
+    pub config: Bytes,
+}
+
+/// A device, and a place for the ring and the block daemon's side of each of its queues. It holds frames of a pool, so it
+/// can't be dropped.
 pub struct Instance {
     pub device: Device,
     pub rings: Vec<Option<HeldRing>>,
+    pub daemons: Vec<HeldDaemon>,
 }
 
 impl Instance {
-    ghost use Rattle.vd_instance.specs.Stands.{Stands, IsHeld, IsWithin, frames};
+    ghost use Rattle.vd_instance.specs.Stands.{Stands, IsHeld, IsNamed, IsWithin, frames};
 
-    /// A device to which nothing was done, which offers these features and has so many queues and these bytes of config
-    /// space.
+    /// A device of this name to which nothing was done.
     pub fn new(
         alloc: Global,
-        features: u64,
-        queues: u32,
-        config: Bytes,
+        name: &[u8],
+        offer: Offer,
         sizes: Sizes,
     ) -> Result<Instance, AllocError>
         requires { AreFit sizes }
         ensures stands { IfOk result (λ i. (x : Setting) (m : PoolMemory) → IsSized x sizes
-            → Stands x (record { features = features; queues = queues; config = config }) [] i m) }
+            → Stands x (record { features = offer.features; queues = offer.queues; config = offer.config }) [] i m) }
         ensures held { IfOk result (λ i. (m : PoolMemory) → m.per_page ≡ sizes.per_page → IsHeld i m) }
         ensures within { IfOk result (λ i. IsWithin 0 i) }
+        ensures named { IfOk result (λ i. IsNamed name.now i) }
     {
+        let Offer {
+            features,
+            queues,
+            config,
+        } = offer;
         let rings = no_rings(alloc, queues)?;
+        let daemons = new_daemons(alloc, name, queues)?;
         let device = Device::new(alloc, features, queues, config, sizes)?;
-        Ok(Instance { device, rings })
+        Ok(Instance {
+            device,
+            rings,
+            daemons,
+        })
     }
 
     /// A device of one queue that is open, set up and on the bus.
-    pub fn ready(alloc: Global, sizes: Sizes) -> Result<Instance, AllocError>
+    pub fn ready(alloc: Global, name: &[u8], sizes: Sizes) -> Result<Instance, AllocError>
         requires { AreFit sizes }
         ensures stands { IfOk result (λ i. (x : Setting) (m : PoolMemory) → IsSized x sizes
             → Stands x plain_creation (Bus Attached ∷ act.State (Max_set 0 256) ∷ Node Opened ∷ []) i m) }
         ensures held { IfOk result (λ i. (m : PoolMemory) → m.per_page ≡ sizes.per_page → IsHeld i m) }
         ensures within { IfOk result (λ i. IsWithin 1 i) }
+        ensures named { IfOk result (λ i. IsNamed name.now i) }
     {
         let config = Bytes::from_vec(vec![in alloc; 0; CONFIG_LEN]?);
         let rings = no_rings(alloc, 1)?;
+        let daemons = new_daemons(alloc, name, 1)?;
         let mut device = Device::new(alloc, FEATURES, 1, config, sizes)?;
         make_ready(&mut device);
-        Ok(Instance { device, rings })
+        Ok(Instance {
+            device,
+            rings,
+            daemons,
+        })
     }
 
     /// Tells the time.
@@ -94,6 +120,7 @@ impl Instance {
             → Stands x made (Message_act (Elapsed now) ∷ done) self.new m }
         ensures memory { self.new.device.memory ≡ self.old.device.memory }
         ensures within { (most : ℕ) → IsWithin most self.old → IsWithin most self.new }
+        ensures named { (name : List ℕ) → IsNamed name self.old → IsNamed name self.new }
     {
         self.device.tick(now);
     }
@@ -111,7 +138,11 @@ impl Instance {
         requires { Holds (frames self) pool.old }
         ensures { Keeps (frames self) (replicate 0 None) pool.old pool.new }
     {
-        let Instance { device, rings: _ } = self;
+        let Instance {
+            device,
+            rings: _,
+            daemons: _,
+        } = self;
         device.discard(pool);
     }
 }

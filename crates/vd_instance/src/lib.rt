@@ -3,12 +3,16 @@
 //! It stands on `vd_device` and on the lines of rings. `step` and `queue_step` answer a line exactly as the definitions do.
 #![tactic(auto)]
 
+mod daemons;
 mod driver;
 mod instance;
 mod known;
 mod line;
 mod rings;
+mod service;
 mod step;
 mod walk;
 
-pub use instance::Instance;
+pub use daemons::HeldDaemon;
+pub use instance::{Instance, Offer};
+pub use step::QueueLine;

@@ -20,7 +20,7 @@ use vd_pool::Pool;
 use vd_ring_memory::{ChainAt, walk};
 
 impl Instance {
-    ghost use Rattle.vd_instance.specs.Stands.{Stands, After, IsHeld, IsReached};
+    ghost use Rattle.vd_instance.specs.Stands.{Stands, After, IsHeld, IsNamed, IsReached};
 
     /// What is known of a queue, and of the tables of its chains.
     fn chain_at(&self, queue: u32, head: u16) -> ChainAt
@@ -49,6 +49,7 @@ impl Instance {
             → MayTell (λ said. T.heard told.old said told.new) (needs_session acts (walk_turn x made acts queue head)) (After x made acts self.new pool.new) result }
         ensures rest { KeepsRest self.old.device.memory self.new.device.memory pool.old pool.new }
         ensures path { self.new.device.path ≡ self.old.device.path }
+        ensures named { (name : List ℕ) → IsNamed name self.old → IsNamed name self.new }
     {
         if !self.device.path.opened {
             told.refused(Errno::Badf);

@@ -11,7 +11,7 @@ loop-named-preserved c =
     record {
       count = count_more c.args.devices.now l.devices l.named-index _ i.count;
       told = told_more c.args.now c.args.devices.now l.devices l.named-index c.named-item.result _ under i.told i.others
-          (record { name = refl; stands = c.tick.ensures.stands; memory = c.tick.ensures.memory; within = c.tick.ensures.within });
+          (record { name = refl; stands = c.tick.ensures.stands; memory = c.tick.ensures.memory; named = c.tick.ensures.named; within = c.tick.ensures.within });
       others = others_more c.args.devices.now l.devices l.named-index _ i.others;
     }
 

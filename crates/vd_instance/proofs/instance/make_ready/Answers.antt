@@ -9,7 +9,7 @@ returns-clause-stands c = λ x made m some s. readied c.set_max-set.new.self s (
 
 pub returns-clause-within : goal.returns-clause-within
 returns-clause-within c = λ w. record {
-  path = record { state = counts_within_more 0 1 _ (omega arith) (c.set_max-set.ensures.counts 0 w.path.state); sessions = omega arith };
+  path = record { state = counts_within_more 0 1 _ (omega arith) (c.set_max-set.ensures.counts 0 w.path.state); sessions = omega arith; closings = (let h = w.path.closings in omega arith) };
   maps = (let h = w.maps in omega arith);
   regions = (let h = w.regions in omega arith);
 }

@@ -12,10 +12,10 @@ returns-clause-executed g c =
     let bytes : c.deref.result.now ≡ c.args.self.now.hand.bytes = c.deref.ensures.value ∙ ap (λ (r : InHand). r.hand.bytes) c.self.view_is in
     let room : length c.deref_mut.result.now ≡ c.args.self.now.hand.writable =
     ap length c.deref_mut.ensures.value ∙ c.self.invariant.written ∙ ap (λ (r : InHand). r.hand.writable) c.self.view_is in
-    let items = with_items_is c.self.inside.answer c.execute-status.new.into (c.execute-status.auto.into ∙ c.deref_mut.ensures.len) in (
-      outcome_in c.execute-status.new.into,
+    let items = with_items_is c.self.inside.answer c.execute-executed.new.into (c.execute-executed.auto.into ∙ c.deref_mut.ensures.len) in (
+      outcome_in c.execute-executed.new.into,
       λ i. record { hand = hand i; outcome = Some (outcome_in (items i)) },
-      c.execute-status.ensures.status,
-      subst (λ (b : Block). Executes g.I.Image.content g.I.Image.faults g.I.Image.flushes device.window device.offered device.name.now b c.args.disk.now c.execute-status.new.disk (outcome_in c.execute-status.new.into))
-          (λ i. block_of (bytes i) (room i)) c.execute-status.ensures.executed,
+      c.execute-executed.ensures.status,
+      subst (λ (b : Block). Executes g.I.Image.content g.I.Image.faults g.I.Image.flushes device.window device.offered device.name.now b c.execute-executed.result.failed c.args.disk.now c.execute-executed.new.disk (outcome_in c.execute-executed.new.into))
+          (λ i. block_of (bytes i) (room i)) c.execute-executed.ensures.executed,
     )

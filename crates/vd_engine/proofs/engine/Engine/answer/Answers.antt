@@ -1,14 +1,24 @@
-use Rattle.std.proofs.Common.{sym, ap, ◌∙◌, false}
-use Rattle.vd_model.specs.Deeds.{device_view}
+use Rattle.std.proofs.Common.{subst, sym, ap, refl, ◌∙◌, ◌≡◌, ◌++◌, false}
+use Rattle.vd_model.specs.declared.step.Step.{Step}
+use Rattle.vd_model.specs.Deeds.{device_view, image_byte}
 use Rattle.vd_model.specs.History.{outcome, device_outcome, device_turn, device_queue_turn}
-use Rattle.vd_engine.proofs.Engines.{may_do_as}
+use Rattle.vd_engine.specs.Frugal.{is_execution}
+use Rattle.vd_engine.proofs.Images.{control_stores, device_stores}
+use Rattle.vd_engine.proofs.Engines.{serves_plain, serves_as}
 use Rattle.vd_engine.proofs.engine.Engine.answer.Goals as goal
 
 pub returns-in-Control-clause-line : goal.returns-in-Control-clause-line
-returns-in-Control-clause-line g c = may_do_as (λ x done. ap (λ k. outcome x done k false) c.in-Control.is) c.control.ensures
+returns-in-Control-clause-line g c = serves_plain (λ x done. ap (λ k. outcome x done k false) c.in-Control.is)
+    (λ x done i. subst (λ (k : Step). image_byte x ((outcome x done k false).deeds ++ done) i ≡ image_byte x done i) (sym c.in-Control.is) (control_stores x done c.in-Control.step i))
+    c.plain.ensures c.control.ensures
 
 pub returns-in-Device-clause-line : goal.returns-in-Device-clause-line
-returns-in-Device-clause-line g c = may_do_as (λ x done. ap (λ k. outcome x done k false) c.in-Device.is ∙ ap (λ n. device_outcome n (device_turn x (device_view x n done) c.in-Device.step)) (sym c.as_slice.ensures)) c.on_device.ensures.line
+returns-in-Device-clause-line g c = serves_plain
+    (λ x done. ap (λ k. outcome x done k false) c.in-Device.is ∙ ap (λ n. device_outcome n (device_turn x (device_view x n done) c.in-Device.step)) (sym c.as_slice.ensures))
+    (λ x done i. subst (λ (k : Step). image_byte x ((outcome x done k false).deeds ++ done) i ≡ image_byte x done i) (sym c.in-Device.is)
+    (device_stores x c.in-Device.name done (device_view x c.in-Device.name done) c.in-Device.step i))
+    c.plain-in-Device.ensures c.on_device.ensures.line
 
 pub returns-in-Queue-clause-line : goal.returns-in-Queue-clause-line
-returns-in-Queue-clause-line g c = may_do_as (λ x done. ap (λ k. outcome x done k false) c.in-Queue.is ∙ ap (λ n. device_outcome n (device_queue_turn x n (device_view x n done) false c.in-Queue.step)) (sym c.as_slice-in-Queue.ensures)) c.on_queue.ensures
+returns-in-Queue-clause-line g c = serves_as
+    (λ x done failed. ap (λ k. outcome x done k failed) c.in-Queue.is ∙ ap (λ n. device_outcome n (device_queue_turn x n (device_view x n done) failed c.in-Queue.step)) (sym c.as_slice-in-Queue.ensures)) (ap is_execution c.in-Queue.is) c.on_queue.ensures.line

@@ -1,6 +1,6 @@
 use Rattle.std.proofs.Common.{sym, ap, ◌∙◌}
 use Rattle.vd_model.specs.Raw.{control_step}
-use Rattle.vd_model.specs.ControlTurns.{control_outcome, create_outcome, destroy_outcome, dev_outcome, raw_outcome}
+use Rattle.vd_model.specs.ControlTurns.{control_outcome, create_outcome, destroy_outcome, dev_outcome, raw_outcome, image_outcome}
 use Rattle.vd_engine.proofs.Engines.{may_do_as, may_do_ok}
 use Rattle.vd_engine.proofs.engine.Engine.control.Goals as goal
 
@@ -21,6 +21,9 @@ returns-in-Dev g c = may_do_as (λ x done. ap (control_outcome x done) c.in-Dev.
 
 pub returns-in-Control : goal.returns-in-Control
 returns-in-Control g c = may_do_as (λ x done. ap (control_outcome x done) c.in-Control.is ∙ ap (λ b. raw_outcome x done (control_step c.in-Control.number b)) (sym c.as_slice-in-Control.ensures)) c.raw.ensures
+
+pub returns-in-Image : goal.returns-in-Image
+returns-in-Image g c = may_do_as (λ x done. ap (control_outcome x done) c.in-Image.is ∙ ap (λ n. image_outcome x done n c.in-Image.first c.in-Image.count) (sym c.as_slice-in-Image.ensures)) c.image.ensures
 
 pub returns-in-Tick : goal.returns-in-Tick
 returns-in-Tick g c = may_do_ok (λ x done. ap (control_outcome x done) c.in-Tick.is) c.tick.ensures

@@ -3,6 +3,7 @@ use Rattle.vd_model.specs.declared.answer.Answer.TheVariants.{Err}
 use Rattle.vd_model.specs.Deeds.{Made}
 use Rattle.vd_model.specs.ControlTurns.{new_or, done_outcome, refusal_outcome}
 use Rattle.vd_control.specs.Checks.{is_refused}
+use Rattle.vd_instance.specs.Stands.{IsNamed}
 use Rattle.vd_engine.specs.declared.devices.Named.{Named}
 use Rattle.vd_engine.specs.Machine.{NoneIs, AllStand}
 use Rattle.vd_engine.proofs.Counts.{within_later}
@@ -39,8 +40,9 @@ returns g c = record {
       let new : Named = record { name = c.args.config.name; instance = c.in_ok-instance.instance } in
       results_as (create_taken done c.args.config c.in-Ok.ensures.taken ∙ taken) (record {
         says = c.done.ensures;
-        stands = making_done x done c.args.self.now _ s c.args.config.name new _ [] none refl refl refl refl (c.push_reserved.ensures.items ∙ ap (λ l. l ++ new ∷ []) c.in_ok-reserve.ensures.items)
-            c.in_ok-instance.ensures.stands c.in_ok-instance.ensures.held (within_later 0 (c.args.self.now.asked + 1) c.in_ok-instance.instance (omega arith) c.in_ok-instance.ensures.within);
+        stands = making_done x done c.args.self.now _ s c.args.config.name new _ [] none refl refl refl refl refl refl (c.push_reserved.ensures.items ∙ ap (λ l. l ++ new ∷ []) c.in_ok-reserve.ensures.items)
+            c.in_ok-instance.ensures.stands c.in_ok-instance.ensures.held (within_later 0 (c.args.self.now.asked + 1) c.in_ok-instance.instance (omega arith) c.in_ok-instance.ensures.within)
+            (subst (λ n. IsNamed n c.in_ok-instance.instance) c.as_slice-2.ensures c.in_ok-instance.ensures.named);
       });
   asked = refl;
 }

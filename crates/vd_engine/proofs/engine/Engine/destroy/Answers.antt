@@ -25,7 +25,7 @@ pub discard-requires : goal.discard-requires
 discard-requires g c =
     let first : FirstIs c.args.name.now c.args.self.now.devices.items c.in-Some.place = subst (λ l. FirstIs c.args.name.now l c.in-Some.place) c.deref.ensures.value c.in-Some.ensures in
     let there : slice_get c.args.self.now.devices.items c.in-Some.place ≡ Some c.remove-instance.result = slice_get_read _ _ c.in-Some.place _ refl first.within c.remove-instance.ensures.value in
-    (c.requires.reached.stands.stands.devices.frames.held c.in-Some.place c.remove-instance.result there).holds
+    (c.requires.reached.stands.devices.frames.held c.in-Some.place c.remove-instance.result there).holds
 
 pub returns-else-is_in_use : goal.returns-else-is_in_use
 returns-else-is_in_use g c = record {
@@ -36,7 +36,7 @@ returns-else-is_in_use g c = record {
       let there : slice_get c.args.self.now.devices.items c.in-Some.place ≡ Some c.remove-instance.result = slice_get_read _ _ c.in-Some.place _ refl first.within c.remove-instance.ensures.value in
       results_as (destroy_is x done _ _ s.devices c.args.name.now c.in-Some.place first false (sym (c.if-is_in_use.ensures x that.made (acts_of_device c.args.name.now done) _ that.stands))) (record {
         says = c.done.ensures;
-        stands = end_done x done c.args.self.now _ s c.args.name.now c.in-Some.place c.remove-instance.result _ first there refl refl c.remove-instance.ensures.items c.discard.ensures;
+        stands = end_done x done c.args.self.now _ s c.args.name.now c.in-Some.place c.remove-instance.result _ first there refl refl refl refl c.remove-instance.ensures.items c.discard.ensures;
       });
   asked = refl;
 }

@@ -23,7 +23,7 @@ returns-in-Some-clause-line g c = record {
   line = λ x done s.
       let first : FirstIs c.args.name.now c.args.self.now.devices.items c.in-Some.place = subst (λ l. FirstIs c.args.name.now l c.in-Some.place) c.deref.ensures.value c.in-Some.ensures in
       let there : slice_get c.args.self.now.devices.items c.in-Some.place ≡ Some c.index_mut-named.result.now = slice_get_read _ _ c.in-Some.place _ refl first.within c.index_mut-named.ensures.value in
-      line_done x done c.args.self.now _ s c.args.name.now c.in-Some.place _ _ first there refl refl refl refl c.step.ensures.rest (λ made. dev_turn x made (device_view x c.args.name.now done) c.args.step.now) c.step.result c.step.ensures.within
+      line_done x done c.args.self.now _ s c.args.name.now c.in-Some.place _ _ first there refl refl refl refl refl refl c.step.ensures.rest c.step.ensures.named (λ made. dev_turn x made (device_view x c.args.name.now done) c.args.step.now) c.step.result c.step.ensures.within
       (λ made stands. c.step.ensures.line x made (device_view x c.args.name.now done) stands (sym s.now));
   asked = refl;
 }

@@ -1,18 +1,26 @@
-use Rattle.vd_engine.proofs.Engines.{stays, goes_on, on_err}
+use Rattle.vd_engine.proofs.Engines.{stays, still_reached, still_sectors, reached_more, sectors_more, goes_on, image_on}
 use Rattle.vd_engine.proofs.engine.Engine.play.Goals as goal
 
-pub returns-in_err-answer-clause-err : goal.returns-in_err-answer-clause-err
-returns-in_err-answer-clause-err g c = λ x h s. on_err c.from_residual.result (stays x h c.in_err-answer.ensures.line s)
+pub returns-in-Err-clause-err : goal.returns-in-Err-clause-err
+returns-in-Err-clause-err g c = λ x h s. stays x h c.in-Err.ensures.line s
 
-pub returns-in_err-answer-clause-reached : goal.returns-in_err-answer-clause-reached
-returns-in_err-answer-clause-reached g c =
-    let r = c.requires.reached in
-    record { setting = r.setting; history = r.history; stands = stays r.setting r.history c.in_err-answer.ensures.line r.stands }
+pub returns-in-Err-clause-reached : goal.returns-in-Err-clause-reached
+returns-in-Err-clause-reached g c = still_reached c.in-Err.ensures.line c.requires.reached
 
-pub returns-clause-ok : goal.returns-clause-ok
-returns-clause-ok g c = λ x h s. goes_on x h c.args.step.now c.in_ok-answer.ensures.line s
+pub returns-in-Err-clause-still_asked : goal.returns-in-Err-clause-still_asked
+returns-in-Err-clause-still_asked g c = c.in-Err.ensures.line.asked
 
-pub returns-clause-reached : goal.returns-clause-reached
-returns-clause-reached g c =
-    let r = c.requires.reached in
-    record { setting = r.setting; history = _; stands = (goes_on r.setting r.history c.args.step.now c.in_ok-answer.ensures.line r.stands).1 }
+pub returns-in-Err-clause-sectors : goal.returns-in-Err-clause-sectors
+returns-in-Err-clause-sectors g c = still_sectors c.in-Err.ensures.line c.requires.reached
+
+pub returns-in-Ok-clause-ok : goal.returns-in-Ok-clause-ok
+returns-in-Ok-clause-ok g c = λ x h s image. goes_on x h c.args.step.now c.in-Ok.ensures.line s image
+
+pub returns-in-Ok-clause-image : goal.returns-in-Ok-clause-image
+returns-in-Ok-clause-image g c = λ x h s image. image_on x h c.args.step.now c.in-Ok.ensures.line s _ c.answer.ensures.size image
+
+pub returns-in-Ok-clause-reached : goal.returns-in-Ok-clause-reached
+returns-in-Ok-clause-reached g c = reached_more c.in-Ok.ensures.line c.requires.reached
+
+pub returns-in-Ok-clause-sectors : goal.returns-in-Ok-clause-sectors
+returns-in-Ok-clause-sectors g c = sectors_more c.in-Ok.ensures.line c.requires.reached

@@ -21,7 +21,7 @@ returns-in-Some g c = record {
       let same = refilled c.args.self.now.devices.len c.tick_all.new.devices c.args.self.now.devices.items (c.tick_all.ensures.count ∙ c.deref_mut.ensures.len) in
       results_as is (record {
         says = c.fields.ensures;
-        stands = tick_done x done c.args.self.now after s refl refl (subst (λ l. AreTicked c.in-Some.now c.args.self.now.devices.items l) (sym same) told);
+        stands = tick_done x done c.args.self.now after s refl refl refl refl (subst (λ l. AreTicked c.in-Some.now c.args.self.now.devices.items l) (sym same) told);
       });
   asked = refl;
 }

@@ -15,7 +15,7 @@ returns-in-Some-clause-line g c = λ x made acts m s.
     let ring = subst (λ o. RingStands acts c.args.queue o) (sym (get_or_read c.args.self.now.rings.items c.args.queue c.in-Some.kept.now less c.in-Some.ensures.value None)) (s.rings c.args.queue) in
     let known = c.known_queue-known.ensures x made acts m s in
     may_tell_as (ap (λ b. refuse (refusal_if (not b) Nodev) (ring_turn x made acts c.args.queue c.args.size)) (sym s.device.path.attached ∙ c.if-not-self.false))
-    (ring_may_tell c.args.queue c.ring.new.domain c.ring.new.kept _ less refl refl s c.ring.result (ring_own acts c.args.queue (low_regions s) x made c.args.size)
+    (ring_may_tell c.args.queue c.ring.new.domain c.ring.new.kept _ less refl refl refl s c.ring.result (ring_own acts c.args.queue (low_regions s) x made c.args.size)
     (c.ring.ensures.line x made acts m c.args.queue s.device.memory.domain ring known))
 
 pub returns-in-None-clause-line : goal.returns-in-None-clause-line

@@ -28,7 +28,7 @@ returns-in-Some-clause-line g c = λ x made acts m s.
     let ring = subst (λ o. RingStands acts c.args.queue o) (sym (get_or_read c.args.self.now.rings.items c.args.queue c.in-Some.kept.now less c.in-Some.ensures.value None)) (s.rings c.args.queue) in
     let known = c.known_queue-known.ensures x made acts m s in
     tells_as (ap (λ b. refuse (refusal_if (not b) Nodev) (ring_line_turn x made acts c.args.queue c.args.line)) (sym s.device.path.attached ∙ c.if-not-self.false))
-    (ring_tells c.args.queue c.answer.new.domain c.answer.new.kept _ less refl refl s (line_own acts c.args.queue x made c.in-Some.kept.now c.known_queue-known.result ring known c.args.line)
+    (ring_tells c.args.queue c.answer.new.domain c.answer.new.kept _ less refl refl refl s (line_own acts c.args.queue x made c.in-Some.kept.now c.known_queue-known.result ring known c.args.line)
     (c.answer.ensures.line x made acts m c.args.queue s.device.memory.domain ring known))
 
 pub returns-in-None-clause-line : goal.returns-in-None-clause-line

@@ -5,6 +5,7 @@ use Rattle.vd_model.specs.State.{Max_set}
 use Rattle.vd_memory_lines.specs.declared.memory.Memory.{Memory}
 use Rattle.vd_device.specs.Stands as device
 use Rattle.vd_instance.proofs.Fresh.{no_own, empty_stands}
+use Rattle.vd_instance.proofs.Holding.{all_hold, new_hold, new_named}
 use Rattle.vd_instance.proofs.instance.Instance.ready.Goals as goal
 
 pub returns-clause-stands : goal.returns-clause-stands
@@ -17,6 +18,9 @@ returns-clause-stands c = λ x m sized.
       places = ap length c.in_ok-rings.ensures;
       apart = no_own (Bus Attached ∷ State (Max_set 0 256) ∷ Node Opened ∷ []) (λ q. refl);
       sizes = λ q. omega arith;
+      daemons = all_hold x (Bus Attached ∷ State (Max_set 0 256) ∷ Node Opened ∷ []) [] c.in_ok-daemons.daemons.items (λ q. refl)
+          (new_hold x c.args.name.now 1 c.in_ok-daemons.daemons.items c.in_ok-daemons.ensures);
+      count = ap length c.in_ok-daemons.ensures;
     }
 
 pub returns-clause-held : goal.returns-clause-held
@@ -29,3 +33,6 @@ returns-clause-held c = λ m e.
 
 pub returns-clause-within : goal.returns-clause-within
 returns-clause-within c = c.make_ready.ensures.within c.in_ok-device.ensures.within
+
+pub returns-clause-named : goal.returns-clause-named
+returns-clause-named c = new_named c.args.name.now 1 c.in_ok-daemons.daemons.items c.in_ok-daemons.ensures
