@@ -63,6 +63,7 @@ impl Model for LineReader {
 }
 
 /// Where the first LF is.
+#[inline(always)]
 fn line_end(bytes: &[u8]) -> Option<usize>
     ensures { MatchOption result (IsOneLine bytes.now) (λ i. (i < length bytes.now) × (slice_index bytes.now i ≡ 10) × ((k : ℕ) → k < i → slice_index bytes.now k ≢ 10)) }
 {
@@ -92,6 +93,7 @@ impl LineReader {
     }
 
     /// Takes the first line of what was read ahead, if an LF ends it.
+    #[inline(always)]
     fn cut(&mut self) -> bool
         ensures { MatchBool result
             ((self.old.pending ≡ self.new.line ++ (10 ∷ self.new.pending)) × IsOneLine self.new.line × (self.new.taken ≡ self.old.taken))
@@ -152,6 +154,9 @@ impl LineReader {
     }
 
     /// Pulls more bytes, and answers how many.
+    // The piece on the stack costs at each entry, so `advance` isn't to have it.
+    #[cold]
+    #[inline(never)]
     fn fill<S: Source>(&mut self, source: &mut S) -> Result<usize, ReadFault>
         ensures filled { IsFilled self.old self.new (S.left source.old) (S.left source.new) result }
         ensures failed { result ≡ Err ReadFault.Failed → Rose (S.faults source.old) (S.faults source.new) }

@@ -1,5 +1,5 @@
 -- What is written for a script.
-use Rattle.std.specs.Prelude.{ℕ, ◌+◌, List, [], ◌∷◌, ◌++◌, ◌==◌, Bool, true, false, ◌&&◌, nat_lt, nat_le, if◌then◌else◌, Option, Some, None, is_some, length, take, drop}
+use Rattle.std.specs.Prelude.{ℕ, ◌+◌, List, [], ◌∷◌, ◌++◌, ◌==◌, Bool, ◌&&◌, nat_lt, nat_le, if◌then◌else◌, Option, Some, is_some, length, take, drop}
 use Rattle.std.specs.List.{list_any, take_while}
 use Rattle.vd_model.specs.declared.step.Step.{Step}
 use Rattle.vd_model.specs.Setting.{Setting}
@@ -57,29 +57,26 @@ stop_of text =
 abbrev pub has_failed : List ℕ → ℕ → Bool
 has_failed failures n = list_any (λ i. i == n) failures
 
--- the history with what line n asks
-abbrev pub history_with : List ℕ → ℕ → Step → History → History
-history_with failures n step h = record { step = step; failed = has_failed failures n } ∷ h
-
-abbrev pub later_of : List ℕ → ℕ → Option (Option Step) → History → History
-later_of failures n (Some (Some step)) h = history_with failures n step h
-later_of failures n _ h = h
+-- the history with what a line asks, at which the image failed or not
+abbrev pub later_of : Bool → Option (Option Step) → History → History
+later_of failed (Some (Some step)) h = record { step = step; failed = failed } ∷ h
+later_of failed _ h = h
 
 -- the history after some lines, of which the first is line n
 unfoldable pub history_after : List ℕ → ℕ → History → List (List ℕ) → History
 history_after failures n h [] = h
-history_after failures n h (line ∷ rest) = history_after failures (n + 1) (later_of failures n (served_reading line) h) rest
+history_after failures n h (line ∷ rest) = history_after failures (n + 1) (later_of (has_failed failures n) (served_reading line) h) rest
 
--- the reply to line n
-abbrev pub reply_to : List ℕ → Setting → ℕ → History → Option (Option Step) → List ℕ
-reply_to failures x n h (Some (Some step)) = reply_line (reply x h step (has_failed failures n))
-reply_to failures x n h _ = []
+-- the reply to a line, at which the image failed or not
+abbrev pub reply_to : Bool → Setting → History → Option (Option Step) → List ℕ
+reply_to failed x h (Some (Some step)) = reply_line (reply x h step failed)
+reply_to failed x h _ = []
 
 -- the replies to some lines after a history, of which the first is line n
 unfoldable pub output_from : List ℕ → Setting → ℕ → History → List (List ℕ) → List ℕ
 output_from failures x n h [] = []
 output_from failures x n h (line ∷ rest) =
-    reply_to failures x n h (served_reading line) ++ output_from failures x (n + 1) (later_of failures n (served_reading line) h) rest
+    reply_to (has_failed failures n) x h (served_reading line) ++ output_from failures x (n + 1) (later_of (has_failed failures n) (served_reading line) h) rest
 
 -- what is written for a script, where the image failed at these lines
 abbrev pub script_output : Setting → List ℕ → List ℕ → List ℕ

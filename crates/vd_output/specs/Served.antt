@@ -1,29 +1,19 @@
 -- Which line forms are built so far. A line of any other form counts as not in the grammar.
 use Rattle.std.specs.Prelude.{ℕ, Bool, true, false, List, if◌then◌else◌, Option, Some, None}
 use Rattle.vd_model.specs.Reading.{reading}
-use Rattle.vd_model.specs.declared.step.ControlStep.{ControlStep}
-use Rattle.vd_model.specs.declared.step.ControlStep.TheVariants.{Image}
 use Rattle.vd_model.specs.declared.step.QueueStep.{QueueStep}
-use Rattle.vd_model.specs.declared.step.QueueStep.TheVariants.{Fetch, Execute, Finish, Submit}
+use Rattle.vd_model.specs.declared.step.QueueStep.TheVariants.{Submit}
 use Rattle.vd_model.specs.declared.step.Step.{Step}
 use Rattle.vd_model.specs.declared.step.Step.TheVariants.{Control, Device, Queue}
 
--- of the control lines, all but image
-abbrev pub control_served : ControlStep → Bool
-control_served (Image name first count) = false
-control_served step = true
-
--- of the lines on a queue, all but those of block requests
+-- of the lines on a queue, all but that of a driver's block request
 abbrev pub queue_served : QueueStep → Bool
-queue_served (Fetch queue) = false
-queue_served (Execute queue) = false
-queue_served (Finish queue) = false
 queue_served (Submit queue form) = false
 queue_served step = true
 
 -- whether a step's line form is built
 abbrev pub served : Step → Bool
-served (Control step) = control_served step
+served (Control step) = true
 served (Device name step) = true
 served (Queue name step) = queue_served step
 

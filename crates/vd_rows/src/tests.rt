@@ -40,6 +40,7 @@ pub struct Case<'a> {
 pub struct Outside<'a> {
     pub pulls: &'a [u64],
     pub pushes: &'a [u64],
+    pub image: &'a [u64],
     pub room: u64,
 }
 
@@ -47,6 +48,7 @@ pub struct Outside<'a> {
 pub const SOUND: Outside<'static> = Outside {
     pulls: &[],
     pushes: &[],
+    image: &[],
     room: 262144,
 };
 
@@ -58,20 +60,20 @@ fn words_of(alloc: Global, words: &[&str]) -> Result<Vec<String>, AllocError> {
     Ok(all)
 }
 
-/// Runs a script.
+/// Runs a script, and gives the lines at which the image failed.
 pub fn check(
     rt: &impl Abort,
     alloc: Global,
     case: &Case<'_>,
     outside: Outside<'_>,
     name: &str,
-) -> Result<(), AllocError> {
+) -> Result<Lines, AllocError> {
     let words = words_of(alloc, case.words)?;
     let text = Bytes::from_vec(case.script.as_bytes().to_vec(alloc)?);
     let mut source = MemSource::new(text, Lines::from_vec(outside.pulls.to_vec(alloc)?));
     let pushes = Lines::from_vec(outside.pushes.to_vec(alloc)?);
     let mut sink = MemSink::new(alloc, outside.room, pushes)?;
-    let mut disk = MemImage::new(alloc, 0, Lines::new(alloc))?;
+    let mut disk = MemImage::new(alloc, 8, Lines::from_vec(outside.image.to_vec(alloc)?))?;
     let exit = script_top(alloc, &words, &mut source, &mut sink, &mut disk);
     let written = str::from_utf8(sink.as_slice()).unwrap_or("no text");
     let is_due = written == case.replies;
@@ -79,11 +81,16 @@ pub fn check(
     assert_eq!(rt; exit.status, case.status, "status of {name}");
     assert_eq!(rt; exit.line, case.line, "line of {name}");
     assert_eq!(rt; exit.lines_done, case.lines_done, "lines done of {name}");
-    Ok(())
+    Ok(exit.disk_failures)
 }
 
-/// Runs a row to its end.
-fn check_row(rt: &impl Abort, alloc: Global, row: &Row) -> Result<(), AllocError> {
+/// Runs a row to its end, and gives the lines at which the image failed.
+pub fn check_row(
+    rt: &impl Abort,
+    alloc: Global,
+    row: &Row,
+    outside: Outside<'_>,
+) -> Result<Lines, AllocError> {
     let mut script = String::new(alloc);
     let mut replies = String::new(alloc);
     for (line, reply) in row.lines {
@@ -100,13 +107,13 @@ fn check_row(rt: &impl Abort, alloc: Global, row: &Row) -> Result<(), AllocError
         line: 0,
         lines_done: row.lines.len() as u64,
     };
-    check(rt, alloc, &case, SOUND, row.name)
+    check(rt, alloc, &case, outside, row.name)
 }
 
 /// Runs rows.
 fn check_rows(rt: &impl Abort, alloc: Global, rows: &[Row]) -> Result<(), AllocError> {
     for row in rows {
-        check_row(rt, alloc, row)?;
+        check_row(rt, alloc, row, SOUND)?;
     }
     Ok(())
 }

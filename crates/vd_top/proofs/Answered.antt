@@ -1,52 +1,83 @@
--- An engine that stands for a history, one line later.
-use Rattle.std.proofs.Common.{◌≡◌, ℕ, ◌+◌, ◌≤◌, refl, ap, subst, sym, ◌∙◌, arith, Bool, false, Some, is_some, List, [], ◌∷◌, ◌++◌}
+-- A line that was answered.
+use Rattle.std.specs.Prelude.{OnOk, OnErr, IfErr, MatchResult}
+use Rattle.std.proofs.Common.{Result, Ok, Err, ◌≡◌, ℕ, ◌+◌, ◌≤◌, refl, ap, subst, sym, ◌∙◌, arith, Bool, true, false, Option, None, Some, List, [], ◌∷◌, ◌++◌, length, append-nil, true≢false, ◌⊎◌, inl, inr}
 use Rattle.vd_model.specs.declared.step.Step.{Step}
 use Rattle.vd_model.specs.Setting.{Setting}
-use Rattle.vd_model.specs.History.{History, Entry, reply}
+use Rattle.vd_model.specs.History.{History, deeds_of, reply}
 use Rattle.vd_model.specs.Replies.{reply_line}
-use Rattle.vd_output.specs.Served.{served_reading}
 use Rattle.vd_output.specs.Out.{later_of, reply_to}
-use Rattle.vd_device.specs.declared.sizes.Sizes.{Sizes}
-use Rattle.vd_device.specs.Sizes.{IsSized}
 use Rattle.vd_engine.specs.declared.engine.Engine.{Engine}
-use Rattle.vd_engine.specs.Machine.{StandsFor, IsReached}
-use Rattle.vd_top.specs.Played.{Asked, Replied}
+use Rattle.vd_engine.specs.Machine.{StandsFor}
+use Rattle.vd_engine.specs.Image.{IsImage}
+use Rattle.vd_engine.specs.Frugal.{is_execution}
+use Rattle.vd_engine.specs.Does.{Goes}
+use Rattle.vd_top.specs.declared.player.Player.{Player}
+use Rattle.vd_top.specs.declared.progress.Progress.{Progress}
+use Rattle.vd_top.specs.declared.progress.Stop.{Stop}
+use Rattle.vd_top.specs.declared.progress.Stop.TheVariants.{End, SourceFailed, SinkFailed, Memory, BadLine, TooLong}
+use Rattle.vd_top.specs.Executes.{asks_execution, failed_more}
+use Rattle.vd_top.specs.Replies.{Replies, IsReplyAdded, Flushed}
+use Rattle.vd_top.specs.Played.{Replied, Carried, Answered, Untold, Unchanged, IsHindered, StoppedBy}
+use Rattle.vd_top.proofs.Plays.{flushed_same}
 
--- a new engine stands for no step
-pub reached_first : (sizes : Sizes) (e : Engine) → ((x : Setting) → IsSized x sizes → StandsFor x [] e) → IsReached e
-reached_first sizes e first =
-    let x : Setting = record { bounce = sizes.bounce; iova = sizes.iova; per_page = sizes.per_page; sectors = 0; content = λ _. 0 } in
-    record { setting = x; history = []; stands = first x (record { bounce = refl; iova = refl; per_page = refl }) }
-
-module _ (old new : Engine) (r : IsReached old) where
-  -- it stands for an entry more
-  module _ (entry : Entry) (later : (x : Setting) (h : History) → StandsFor x h old → StandsFor x (entry ∷ h) new) where
-    pub reached_more : IsReached new
-    reached_more = record { setting = r.setting; history = entry ∷ r.history; stands = later r.setting r.history r.stands }
-
-    pub asked_more : new.asked ≤ old.asked + 1
-    asked_more = let before = r.stands.asked in let after = (later r.setting r.history r.stands).asked in omega (arith, before, after)
-
-  -- it stands as before
-  module _ (same : (x : Setting) (h : History) → StandsFor x h old → StandsFor x h new) where
-    pub reached_still : IsReached new
-    reached_still = record { setting = r.setting; history = r.history; stands = same r.setting r.history r.stands }
-
-    pub asked_still : new.asked ≤ old.asked + 1
-    asked_still = let before = r.stands.asked in let after = (same r.setting r.history r.stands).asked in omega (arith, before, after)
-
--- a step whose reply was told
-pub asked_told : (x : Setting) (h : History) (step : Step) (old new : List ℕ) (e : Engine) (failed : Bool) → failed ≡ false
-    → (new ≡ old ++ reply_line (reply x h step failed)) × StandsFor x (record { step = step; failed = failed } ∷ h) e → Asked x h step old new e
-asked_told x h step old new e failed none (text, stands) = record {
-  text = subst (λ b. new ≡ old ++ reply_line (reply x h step b)) none text;
-  stands = subst (λ b. StandsFor x (record { step = step; failed = b } ∷ h) e) none stands;
+-- a line that asks nothing
+pub answered_nothing : (lines : ℕ) (p : Player) (held : Option (List ℕ)) (size : ℕ) (content : Option (List ℕ)) → Answered (Some None) lines p p held held size content content
+answered_nothing lines p held size content = record {
+  failed = false;
+  carried = record { said = refl; failures = refl; quiet = λ e. (refl, refl); image = λ x h s i. i };
+  kept = p.waiting;
+  flushed = flushed_same p.waiting held;
+  alone = λ e. absurd (true≢false (sym e));
+  reply = [];
+  waits = record { bytes = sym (append-nil p.waiting.bytes); kept = λ n below. refl; added = λ n past below. absurd (omega (arith, past, below)) };
+  run = λ x h s i. record { stands = s; text = refl };
 }
 
--- a line that asks for a step
-pub replied : (x : Setting) (h : History) (line bytes : List ℕ) (e : Engine) (step : Step) → served_reading line ≡ Some (Some step) → Asked x h step [] bytes e → Replied x h line bytes e
-replied x h line bytes e step is a = record {
-  said = ap is_some is;
-  stands = subst (λ read. StandsFor x (later_of [] 0 read h) e) (sym is) a.stands;
-  text = a.text ∙ sym (ap (reply_to [] x 0 h) is);
-}
+-- the replies that wait weren't written before an execute, or there was no room for its number
+pub hindered : (step : Option (Option Step)) (lines : ℕ) (p : Progress) (old new : Player) (held later : Option (List ℕ)) (size : ℕ) (before after : Option (List ℕ)) → IsHindered p.stop p.lines lines old.waiting new.waiting held later
+    → Unchanged old new before after → StoppedBy p.stop p.lines step lines old new held later size before after
+hindered step lines p old new held later size before after h u = by p.stop h where
+  by : (stop : Stop) → IsHindered stop p.lines lines old.waiting new.waiting held later → StoppedBy stop p.lines step lines old new held later size before after
+  by SinkFailed cut = (cut, u)
+  by Memory m = (m.0, m.1, inl u)
+  by End none = absurd none
+  by SourceFailed none = absurd none
+  by BadLine none = absurd none
+  by TooLong none = absurd none
+
+-- a step was played, whose reply is kept apart
+module _ (step : Step) (lines : ℕ) (failed : Bool) (old new : Player) (kept : Replies) (reply : List ℕ) (held later : Option (List ℕ)) (size : ℕ) (before after : Option (List ℕ))
+    (flushed : Flushed old.waiting kept held later) (alone : is_execution step ≡ true → kept.bytes ≡ [])
+    (failures : new.failures.items ≡ failed_more failed (lines + 1) old.failures.items)
+    (quiet : is_execution step ≡ false → (failed ≡ false) × (after ≡ before))
+    (run : (x : Setting) (h : History) → StandsFor x h old.engine → (is_execution step ≡ true → IsImage x (deeds_of x h) size before) → Goes x (λ said. reply ≡ reply_line said) h step failed new.engine)
+    (image : (x : Setting) (h : History) → StandsFor x h old.engine → IsImage x (deeds_of x h) size before → IsImage x (deeds_of x (record { step = step; failed = failed } ∷ h)) size after) where
+  carried : Carried (Some (Some step)) lines failed old new size before after
+  carried = record { said = refl; failures = failures; quiet = quiet; image = image }
+
+  pub answered_step : IsReplyAdded reply lines kept new.waiting → Answered (Some (Some step)) lines old new held later size before after
+  answered_step waits = record {
+    failed = failed;
+    carried = carried;
+    kept = kept;
+    flushed = flushed;
+    alone = alone;
+    reply = reply;
+    waits = waits;
+    run = λ x h s i. let goes = run x h s i in record { stands = goes.stands; text = goes.says };
+  }
+
+  -- there was no memory for the reply
+  pub untold_step : (p : Progress) → p ≡ record { stop = Memory; lines = lines } → new.waiting ≡ kept → StoppedBy p.stop p.lines (Some (Some step)) lines old new held later size before after
+  untold_step p is same =
+      subst (λ (q : Progress). StoppedBy q.stop q.lines (Some (Some step)) lines old new held later size before after) (sym is)
+      (refl, subst (λ w. Flushed old.waiting w held later) (sym same) flushed, by (is_execution step) refl) where
+        by : (b : Bool) → is_execution step ≡ b → Unchanged old new before after ⊎ Untold (Some (Some step)) lines old new size before after
+        by true e = inr (record { is = e; failed = failed; carried = carried; none = ap (λ (w : Replies). w.bytes) same ∙ alone e })
+        by false e = let q = quiet e in inl (record { failures = failures ∙ ap (λ b. failed_more b (lines + 1) old.failures.items) q.0; content = q.1 })
+
+  -- the reply waits, or there was no memory for it
+  pub step_told : (r : Result (Unit {0}) Progress) → OnOk r (IsReplyAdded reply lines kept new.waiting) → OnErr r (new.waiting ≡ kept) → IfErr r (λ p. p ≡ record { stop = Memory; lines = lines })
+      → MatchResult r (λ _. Answered (Some (Some step)) lines old new held later size before after) (λ p. StoppedBy p.stop p.lines (Some (Some step)) lines old new held later size before after)
+  step_told (Ok u) added same is = answered_step added
+  step_told (Err p) added same is = untold_step p is same

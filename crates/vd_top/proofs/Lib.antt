@@ -1,6 +1,10 @@
 pub mod Founds
 pub mod Marks
+pub mod Failures
+pub mod Agree
 pub mod Waits
 pub mod Plays
+pub mod Halts
+pub mod Ends
 pub mod Answered
 mod Conditions

@@ -1,26 +1,27 @@
 -- A script, line after line.
-use Rattle.std.proofs.Common.{◌≡◌, ◌≢◌, ℕ, ◌+◌, ◌≤◌, Bool, true, false, refl, ap, subst, sym, ◌∙◌, arith, Option, None, cond, nat_le, ◌&&◌, is_some, List, [], ◌∷◌, ◌++◌, length, length-append, append-nil, true≢false, ◌⊎◌, inl, inr}
+use Rattle.std.proofs.Common.{◌≡◌, ◌≢◌, ℕ, ◌+◌, ◌<◌, ◌≤◌, Bool, true, false, refl, ap, subst, sym, ◌∙◌, arith, Option, None, Some, cond, nat_le, ◌&&◌, is_some, List, [], ◌∷◌, ◌++◌, length, take, length-append, append_assoc, append-nil, true≢false, ◌⊎◌, inl, inr}
+use Rattle.std.proofs.Math.Seq.{take-length, take-append_seam}
 use Rattle.std.specs.List.{list_all, take_while}
+use Rattle.std.proofs.lemmas.List.{take-append-le}
 use Rattle.std.proofs.lemmas.List.Sums.{take_while-cons}
 use Rattle.std.proofs.lemmas.List.Folds.{list_all-append}
-use Rattle.std.proofs.lemmas.Bool.Decides.{nat_tests, eqb_tells}
+use Rattle.std.proofs.lemmas.Bool.Decides.{nat_tests, leb_tells}
+use Rattle.vd_model.specs.declared.step.Step.{Step}
 use Rattle.vd_model.specs.Setting.{Setting}
-use Rattle.vd_model.specs.History.{History}
+use Rattle.vd_model.specs.History.{History, deeds_of}
 use Rattle.vd_output.specs.Served.{served_reading}
-use Rattle.vd_output.specs.Out.{is_good, good_lines, script_lines, stop_of, history_after, output_from, script_output, At_the_end, Not_in_grammar, Too_long}
-use Rattle.vd_lines.specs.Ahead.{Ahead}
-use Rattle.vd_lines.specs.IsAt.{IsAt, IsRead, IsTaken, StopsLong}
-use Rattle.vd_lines.proofs.Places.{script_from}
-use Rattle.vd_lines.proofs.Stops.{good_are, stop_bad, all_good, stop_none}
-use Rattle.vd_top.specs.declared.exit.Exit.{Exit}
-use Rattle.vd_top.specs.declared.script.Stop.{Stop}
-use Rattle.vd_top.specs.declared.script.Stop.TheVariants.{End, SourceFailed, SinkFailed, Memory, BadLine, TooLong}
+use Rattle.vd_output.specs.Out.{is_good, good_lines, script_lines, has_failed, later_of, reply_to, history_after}
 use Rattle.vd_engine.specs.declared.engine.Engine.{Engine}
+use Rattle.vd_engine.specs.Image.{IsImage}
 use Rattle.vd_engine.specs.Machine.{StandsFor}
-use Rattle.vd_top.specs.Written.{Appended, AppendedFront, AppendedCut, AppendedLines, EndsAt, stop_of_status, is_status}
-use Rattle.vd_top.specs.Replies.{Replies, Cut, Flushed}
-use Rattle.vd_top.specs.Played.{Answered, Stopped, StopsAt, Waits, Played, PlayedTo, line_of, status_of}
-use Rattle.vd_top.proofs.Waits.{history_none, history_more, waits_first, waits_more, waits_flushed, cut_of, all_written, as_front, lines_of}
+use Rattle.vd_top.specs.declared.player.Player.{Player}
+use Rattle.vd_top.specs.Executes.{asks_execution, is_execute_line, executes, AreFailures, AreUpTo, failed_more}
+use Rattle.vd_top.specs.Pictures.{Holds}
+use Rattle.vd_top.specs.Replies.{Replies, Flushed, line_at}
+use Rattle.vd_top.specs.Played.{Answered, Carried, IsSetting, IsLast, Waits}
+use Rattle.vd_top.proofs.Failures.{none_above, failed_here, failed_else, up_to_more, executes_by, failures_none, failures_in, failures_more}
+use Rattle.vd_top.proofs.Agree.{Agree, history_agrees, holds_agrees, waits_agrees, history_none, history_more}
+use Rattle.vd_top.proofs.Waits.{appended_none, waits_first, waits_more, waits_flushed}
 
 -- ---- good lines
 
@@ -56,201 +57,216 @@ good_front (line ∷ done) after e =
     ∙ ap (λ l. line ∷ l) (good_front done after (and_right (is_good line) (list_all is_good done) e))
 
 -- these lines are answered first
-good_from : (text : List ℕ) (done after : List (List ℕ)) → script_lines text ≡ done ++ after → list_all is_good done ≡ true → good_lines text ≡ done ++ take_while is_good after
+pub good_from : (text : List ℕ) (done after : List (List ℕ)) → script_lines text ≡ done ++ after → list_all is_good done ≡ true → good_lines text ≡ done ++ take_while is_good after
 good_from text done after are good = ap (take_while is_good) are ∙ good_front done after good
+
+-- the lines behind, of which this one is good
+pub good_next : (text : List ℕ) (done : List (List ℕ)) (line : List ℕ) (after : List (List ℕ)) → script_lines text ≡ done ++ line ∷ after → list_all is_good done ≡ true → is_good line ≡ true
+    → good_lines text ≡ done ++ line ∷ take_while is_good after
+good_next text done line after are good here =
+    good_from text done (line ∷ after) are good ∙ ap (λ l. done ++ l) (take_while-cons is_good line after ∙ ap (λ b. cond b (line ∷ take_while is_good after) []) here)
+
+said_of : (read : Option (Option Step)) → asks_execution read ≡ true → is_some read ≡ true
+said_of None e = absurd (true≢false (sym e))
+said_of (Some read) e = refl
+
+-- where no line that is answered asks for an execute, the next one doesn't
+pub quiet_line : (text : List ℕ) (done : List (List ℕ)) (line : List ℕ) (after : List (List ℕ)) → script_lines text ≡ done ++ line ∷ after → list_all is_good done ≡ true → length line ≤ 65536 → executes text ≡ false
+    → is_execute_line line ≡ false
+quiet_line text done line after are good short none = by (is_execute_line line) refl where
+  by : (b : Bool) → is_execute_line line ≡ b → b ≡ false
+  by true e =
+      let here = good_line line short (said_of (served_reading line) e) in
+      absurd (true≢false (sym (executes_by text done line (take_while is_good after) (good_next text done line after are good here) e) ∙ none))
+  by false e = refl
+
+-- ---- what stays
+
+pub flushed_same : (waiting : Replies) (held : Option (List ℕ)) → Flushed waiting waiting held held
+flushed_same waiting held = record { front = []; written = appended_none held; rest = refl; line = λ n below. ap (line_at waiting) (let e : n ≡ 0 + n = omega arith in e) }
+
+pub deeds_none : (x : Setting) (size : ℕ) (content : Option (List ℕ)) → IsImage x [] size content → IsImage x (deeds_of x []) size content
+unfolding deeds_of
+deeds_none x size content i = i
+
+pub holds_none : (x : Setting) (failures : List ℕ) (m size : ℕ) (content : Option (List ℕ)) → m ≡ 0 → IsImage x [] size content → Holds x failures [] m size content
+holds_none x failures m size content none i =
+    subst (λ k. Holds x failures [] k size content) (sym none)
+    (subst (λ h. IsImage x (deeds_of x h) size content) (sym (history_none failures)) (deeds_none x size content i))
+
+-- a reply that waits after a flush waited before it, to the same line
+pub line_flushed : (old new : Replies) (held later : Option (List ℕ)) (last : ℕ) → Flushed old new held later → ((n : ℕ) → n < length old.bytes → last ≤ line_at old n + 1) → (n : ℕ) → n < length new.bytes → last ≤ line_at new n + 1
+line_flushed old new held later last f line n below =
+    let both = length-append f.front new.bytes in let same = ap length f.rest in
+    subst (λ k. last ≤ k + 1) (sym (f.line n below)) (line (length f.front + n) (omega (arith, both, same, below)))
 
 -- ---- the run
 
--- these lines were answered, and their replies written or waiting
-pub record Playing (x : Setting) (text : List ℕ) (lines : ℕ) (waiting : Replies) (engine : Engine) (reader : Ahead) (left old now : Option (List ℕ)) : Type 0 where
+-- the engine stands for the run of these lines, and their replies are written or wait
+pub record Runs (x : Setting) (p : Player) (done : List (List ℕ)) (old now : Option (List ℕ)) : Type 0 where
+  pub stands : StandsFor x (history_after p.failures.items 1 [] done) p.engine
+  pub waits : Waits x p.failures.items done p.waiting old now
+
+-- these lines were answered
+pub record SoFar (text : List ℕ) (lines : ℕ) (engine : Engine) (p : Player) (old now : Option (List ℕ)) (size : ℕ) (before after : Option (List ℕ)) : Type 0 where
   pub done : List (List ℕ)
-  pub at : IsAt text done reader left
   pub good : list_all is_good done ≡ true
   pub count : lines ≡ length done
-  pub stands : StandsFor x (history_after [] 1 [] done) engine
-  pub waits : Waits x done waiting old now
+  pub numbers : AreFailures done p.failures.items
+  pub last : ℕ
+  pub is_last : IsLast p.failures.items p.waiting last lines
+  pub run : (x : Setting) → IsSetting x text engine size before → Runs x p done old now
+  pub image : (x : Setting) → StandsFor x [] engine → IsImage x [] size before → (m : ℕ) → last ≤ m → m ≤ lines → Holds x p.failures.items done m size after
 
-pub playing_first : (x : Setting) (text : List ℕ) (engine : Engine) (reader : Ahead) (left held : Option (List ℕ)) (waiting : Replies) → StandsFor x [] engine → IsAt text [] reader left → waiting.bytes ≡ [] → Playing x text 0 waiting engine reader left held held
-playing_first x text engine reader left held waiting s at none = record {
+abbrev pub so_first : (text : List ℕ) (p : Player) (held : Option (List ℕ)) (size : ℕ) (before : Option (List ℕ)) → p.waiting.bytes ≡ [] → p.failures.items ≡ [] → SoFar text 0 p.engine p held held size before before
+so_first text p held size before none never = record {
   done = [];
-  at = at;
   good = refl;
   count = refl;
-  stands = subst (λ h. StandsFor x h engine) (sym history_none) s;
-  waits = waits_first x waiting held none;
+  numbers = subst (AreFailures []) (sym never) failures_none;
+  last = 0;
+  is_last = record { low = omega arith; early = subst (AreUpTo 0) (sym never) (λ n e. absurd (true≢false (sym e))); line = λ n below. omega arith };
+  run = λ x s. record { stands = subst (λ h. StandsFor x h p.engine) (sym (history_none p.failures.items)) s.stands; waits = waits_first x p.failures.items p.waiting held none };
+  image = λ x s i m low high. holds_none x p.failures.items m size before (omega (arith, high)) i;
 }
 
-module _ (x : Setting) (text : List ℕ) (lines : ℕ) (waiting : Replies) (engine : Engine) (reader : Ahead) (left old now : Option (List ℕ)) (p : Playing x text lines waiting engine reader left old now) where
-  -- they are answered first
-  first : (after : List (List ℕ)) × (good_lines text ≡ p.done ++ after)
-  first =
-      let taken = p.at.taken in let room = p.at.room in
-      let from = script_from text p.at.seen (reader.pending ++ p.at.rest) p.done p.at.cuts p.at.bytes (omega (arith, taken, room)) in
-      (take_while is_good from.0, good_from text p.done from.0 from.1 p.good)
+executes_if : (b failed : Bool) → (b ≡ false → failed ≡ false) → failed ≡ true → b ≡ true
+executes_if true failed quiet e = refl
+executes_if false failed quiet e = absurd (true≢false (sym e ∙ quiet refl))
 
-  -- it stops here, without an answer to another line
-  stop_here : (stop : Stop) (later : Option (List ℕ)) → StopsAt text p.done later stop → PlayedTo x text stop lines waiting later old now
-  stop_here stop later stops = record { done = p.done; good = p.good; count = p.count; stops = stops; after = first.0; first = first.1; waits = p.waits }
+-- the place and what is known of a line more
+pub record Next (text : List ℕ) (lines : ℕ) (engine : Engine) (done : List (List ℕ)) (p : Player) (size : ℕ) (before after : Option (List ℕ)) : Type 0 where
+  pub last : ℕ
+  pub is_last : IsLast p.failures.items p.waiting last lines
+  pub image : (x : Setting) → StandsFor x [] engine → IsImage x [] size before → (m : ℕ) → last ≤ m → m ≤ lines → Holds x p.failures.items done m size after
 
-  pub stop_end : (later : Option (List ℕ)) → IsRead text p.done later → Played x text End lines waiting later old now
-  stop_end later read = stop_here End later (stop_none text p.done read.lines_are p.good read.short, all_good text p.done read.lines_are p.good, read.none_left)
+module _ (text : List ℕ) (lines : ℕ) (engine : Engine) (p : Player) (old now : Option (List ℕ)) (size : ℕ) (before content : Option (List ℕ)) (g : SoFar text lines engine p old now size before content) where
+  -- the image at the last of the lines
+  holds_now : (x : Setting) → StandsFor x [] engine → IsImage x [] size before → IsImage x (deeds_of x (history_after p.failures.items 1 [] g.done)) size content
+  holds_now x s i =
+      let low = g.is_last.low in
+      subst (λ l. IsImage x (deeds_of x (history_after p.failures.items 1 [] l)) size content) (ap (λ k. take k g.done) g.count ∙ take-length g.done) (g.image x s i lines low (omega arith))
 
-  pub stop_failed : (later : Option (List ℕ)) → IsTaken text p.done later → Played x text SourceFailed lines waiting later old now
-  stop_failed later taken = stop_here SourceFailed later taken
+  -- ---- a line that was carried out
+  module _ (line : List ℕ) (failed : Bool) (new : Player) (after : Option (List ℕ)) (c : Carried (served_reading line) lines failed p new size content after) where
+    pub here : has_failed new.failures.items (1 + length g.done) ≡ failed
+    here =
+        let low = g.is_last.low in let count = g.count in
+        let none = none_above g.last (lines + 1) p.failures.items g.is_last.early (omega (arith, low)) in
+        ap (has_failed new.failures.items) (let e : 1 + length g.done ≡ lines + 1 = omega (arith, count) in e)
+        ∙ ap (λ l. has_failed l (lines + 1)) c.failures ∙ failed_here failed (lines + 1) p.failures.items none
 
-  pub stop_long : (later : Option (List ℕ)) → StopsLong text p.done → Played x text TooLong lines waiting later old now
-  stop_long later long = stop_here TooLong later (long p.good)
+    pub same : Agree p.failures.items new.failures.items 1 (length g.done)
+    same m from to =
+        let count = g.count in
+        sym (ap (λ l. has_failed l m) c.failures ∙ failed_else failed (lines + 1) m p.failures.items (λ e. omega (arith, count, to, e)))
 
-  pub stop_memory : (later : Option (List ℕ)) → Played x text Memory lines waiting later old now
-  stop_memory later = stop_here Memory later tt
+    pub numbers_more : AreFailures (g.done ++ line ∷ []) new.failures.items
+    numbers_more =
+        subst (AreFailures (g.done ++ line ∷ [])) (ap (λ n. failed_more failed (n + 1) p.failures.items) (sym g.count) ∙ sym c.failures)
+        (failures_more g.done line p.failures.items g.numbers failed (executes_if (is_execute_line line) failed (λ e. (c.quiet e).0)))
 
-  -- a line that isn't answered
-  pub stop_line : (line : List ℕ) (after : List (List ℕ)) (stop : Stop) (later : Option (List ℕ)) → script_lines text ≡ p.done ++ line ∷ after → length line ≤ 65536 → Stopped line stop → Played x text stop lines waiting later old now
-  stop_line line after BadLine later are short none =
-      stop_here BadLine later (stop_bad text p.done line after are p.good (bad_line line none) short, good_are text p.done line after are p.good (bad_line line none))
-  stop_line line after Memory later are short none = stop_memory later
-  stop_line line after End later are short none = absurd none
-  stop_line line after SourceFailed later are short none = absurd none
-  stop_line line after SinkFailed later are short none = absurd none
-  stop_line line after TooLong later are short none = absurd none
+    pub up_to : AreUpTo (lines + 1) new.failures.items
+    up_to = let low = g.is_last.low in subst (AreUpTo (lines + 1)) (sym c.failures) (up_to_more failed g.last (lines + 1) p.failures.items g.is_last.early (omega (arith, low)))
 
-  -- a line more is answered
-  answered : (line : List ℕ) (waits : Replies) (new : Engine) → Answered x (history_after [] 1 [] p.done) line lines waiting waits new → Waits x (p.done ++ line ∷ []) waits old now
-  answered line waits new a = waits_more x p.done waiting old now p.waits line a.reply lines waits a.waits p.count a.replied.text
+    history_now : history_after new.failures.items 1 [] (g.done ++ line ∷ []) ≡ later_of failed (served_reading line) (history_after p.failures.items 1 [] g.done)
+    history_now =
+        history_more new.failures.items line failed g.done 1 [] here
+        ∙ ap (later_of failed (served_reading line)) (sym (history_agrees p.failures.items new.failures.items g.done 1 [] same))
 
-  pub playing_more : (line : List ℕ) (waits : Replies) (new : Engine) (after : Ahead) (later : Option (List ℕ)) → IsAt text (p.done ++ line ∷ []) after later → length line ≤ 65536
-      → ((h : History) → StandsFor x h engine → Answered x h line lines waiting waits new) → Playing x text (lines + 1) waits new after later old now
-  playing_more line waits new after later at short replies =
-      let r = replies (history_after [] 1 [] p.done) p.stands in
-      record {
-        done = p.done ++ line ∷ [];
-        at = at;
-        good = good_more p.done line p.good (good_line line short r.replied.said);
-        count = ap (λ n. n + 1) p.count ∙ sym (length-append p.done (line ∷ []));
-        stands = subst (λ h. StandsFor x h new) (sym (history_more p.done line 1 [])) r.replied.stands;
-        waits = answered line waits new r;
-      }
+    -- the image with what it stored
+    whole : (x : Setting) → StandsFor x [] engine → IsImage x [] size before → IsImage x (deeds_of x (history_after new.failures.items 1 [] (g.done ++ line ∷ []))) size after
+    whole x s i =
+        subst (λ h. IsImage x (deeds_of x h) size after) (sym history_now)
+        (c.image x (history_after p.failures.items 1 [] g.done) (g.run x (record { stands = s; image = λ e. i })).stands (holds_now x s i))
 
-  -- the last line is answered
-  pub stop_last : (line : List ℕ) (waits : Replies) (new : Engine) (later : Option (List ℕ)) → IsRead text (p.done ++ line ∷ []) later → length line ≤ 65536
-      → ((h : History) → StandsFor x h engine → Answered x h line lines waiting waits new) → Played x text End (lines + 1) waits later old now
-  stop_last line waits new later read short replies =
-      let r = replies (history_after [] 1 [] p.done) p.stands in
-      let good = good_more p.done line p.good (good_line line short r.replied.said) in
-      let all = all_good text (p.done ++ line ∷ []) read.lines_are good in
-      record {
-        done = p.done ++ line ∷ [];
-        good = good;
-        count = ap (λ n. n + 1) p.count ∙ sym (length-append p.done (line ∷ []));
-        stops = (stop_none text (p.done ++ line ∷ []) read.lines_are good read.short, all, read.none_left);
-        after = [];
-        first = all ∙ sym (append-nil (p.done ++ line ∷ []));
-        waits = answered line waits new r;
-      }
+    take_all : take (lines + 1) (g.done ++ line ∷ []) ≡ g.done ++ line ∷ []
+    take_all = let size = length-append g.done (line ∷ []) in let count = g.count in ap (λ k. take k (g.done ++ line ∷ [])) (let e : lines + 1 ≡ length (g.done ++ line ∷ []) = omega (arith, size, count) in e) ∙ take-length (g.done ++ line ∷ [])
 
-  -- the replies that wait are written, or the sink fails at them
-  pub playing_flushed : (next : Option (List ℕ)) (kept : Replies) → Flushed waiting kept now next → Playing x text lines kept engine reader left old next
-  playing_flushed next kept f =
-      record { done = p.done; at = p.at; good = p.good; count = p.count; stands = p.stands; waits = waits_flushed x p.done waiting old now p.waits kept next f }
+    pub holds_whole : (x : Setting) → StandsFor x [] engine → IsImage x [] size before → Holds x new.failures.items (g.done ++ line ∷ []) (lines + 1) size after
+    holds_whole x s i = subst (λ l. IsImage x (deeds_of x (history_after new.failures.items 1 [] l)) size after) (sym take_all) (whole x s i)
 
-  pub stop_sink : (next : Option (List ℕ)) (written : ℕ) → Cut waiting written now next → AppendedCut x text written old next
-  stop_sink next written c = cut_of x p.done waiting old now p.waits text first.0 first.1 next written c
+    -- the image as it was at a line before
+    holds_before : (x : Setting) → StandsFor x [] engine → IsImage x [] size before → after ≡ content → (m : ℕ) → g.last ≤ m → m ≤ lines → Holds x new.failures.items (g.done ++ line ∷ []) m size after
+    holds_before x s i still m low high =
+        let count = g.count in
+        subst (λ l. IsImage x (deeds_of x (history_after new.failures.items 1 [] l)) size after) (sym (take-append-le m g.done (line ∷ []) (omega (arith, count, high))))
+        (holds_agrees p.failures.items new.failures.items g.done same x m size after (omega (arith, count, high))
+        (subst (λ o. Holds x p.failures.items g.done m size o) (sym still) (g.image x s i m low high)))
 
--- ---- the end
+  -- ---- a line that was answered
+  module _ (line : List ℕ) (new : Player) (next : Option (List ℕ)) (after : Option (List ℕ)) (a : Answered (served_reading line) lines p new now next size content after) where
+    pub next_line : (b : Bool) → is_execute_line line ≡ b → Next text (lines + 1) engine (g.done ++ line ∷ []) new size before after
+    next_line true e = record {
+      last = lines + 1;
+      is_last = record {
+        low = omega arith;
+        early = up_to line a.failed new after a.carried;
+        line = λ n below.
+            let none = ap length (a.alone e) in
+            subst (λ k. lines + 1 ≤ k + 1) (sym (a.waits.added n (omega (arith, none)) below)) (omega arith);
+      };
+      image = λ x s i m low high.
+          subst (λ k. Holds x new.failures.items (g.done ++ line ∷ []) k size after) (let is : lines + 1 ≡ m = omega (arith, low, high) in is) (holds_whole line a.failed new after a.carried x s i);
+    }
+    next_line false e =
+        let quiet = a.carried.quiet e in
+        let low = g.is_last.low in
+        record {
+          last = g.last;
+          is_last = record {
+            low = omega (arith, low);
+            early = subst (AreUpTo g.last) (ap (λ b. failed_more b (lines + 1) p.failures.items) (sym quiet.0) ∙ sym a.carried.failures) g.is_last.early;
+            line = λ n below. elim (leb_tells (length a.kept.bytes) n) [
+              | inl past ↦ subst (λ k. g.last ≤ k + 1) (sym (a.waits.added n past.1 below)) (omega (arith, low))
+              | inr early ↦ subst (λ k. g.last ≤ k + 1) (sym (a.waits.kept n early.1)) (line_flushed p.waiting a.kept now next g.last a.flushed g.is_last.line n early.1)
+            ];
+          };
+          image = λ x s i m low high. elim (leb_tells m lines) [
+            | inl under ↦ holds_before line a.failed new after a.carried x s i quiet.1 m low under.1
+            | inr over ↦
+                (let past = over.1 in
+                subst (λ k. Holds x new.failures.items (g.done ++ line ∷ []) k size after) (let is : lines + 1 ≡ m = omega (arith, past, high) in is) (holds_whole line a.failed new after a.carried x s i))
+          ];
+        }
 
-module _ (x : Setting) (text : List ℕ) (waiting : Replies) (lines : ℕ) (left old now next : Option (List ℕ)) where
-  played_to : (stop : Stop) → stop ≢ SinkFailed → Played x text stop lines waiting left old now → PlayedTo x text stop lines waiting left old now
-  played_to End other p = p
-  played_to SourceFailed other p = p
-  played_to SinkFailed other p = absurd (other refl)
-  played_to Memory other p = p
-  played_to BadLine other p = p
-  played_to TooLong other p = p
+    module _ (rest : List (List ℕ)) (are : good_lines text ≡ g.done ++ line ∷ rest) where
+      pub run_more : (x : Setting) → IsSetting x text engine size before → Runs x new (g.done ++ line ∷ []) old next
+      run_more x s =
+          let r = g.run x s in
+          let told = a.run x (history_after p.failures.items 1 [] g.done) r.stands (λ e. holds_now x s.stands (s.image (executes_by text g.done line rest are e))) in
+          let agree = same line a.failed new after a.carried in
+          record {
+            stands = subst (λ h. StandsFor x h new.engine) (sym (history_now line a.failed new after a.carried)) told.stands;
+            waits = waits_more x new.failures.items g.done a.kept old next
+                (waits_flushed x new.failures.items g.done p.waiting old now (waits_agrees p.failures.items new.failures.items g.done agree x p.waiting old now r.waits) a.kept next a.flushed)
+                line a.reply a.failed lines new.waiting a.waits g.count (here line a.failed new after a.carried)
+                (told.text ∙ ap (λ h. reply_to a.failed x h (served_reading line)) (history_agrees p.failures.items new.failures.items g.done 1 [] agree));
+          }
 
-  whole : (done : List (List ℕ)) → good_lines text ≡ done → Appended old next (output_from [] x 1 [] done) → Appended old next (script_output x text [])
-  whole done are a = subst (λ l. Appended old next (output_from [] x 1 [] l)) (sym are) a
+      abbrev pub so_more : is_good line ≡ true → SoFar text (lines + 1) engine new old next size before after
+      so_more good =
+          let n = next_line (is_execute_line line) refl in
+          record {
+            done = g.done ++ line ∷ [];
+            good = good_more g.done line g.good good;
+            count = ap (λ n. n + 1) g.count ∙ sym (length-append g.done (line ∷ []));
+            numbers = numbers_more line a.failed new after a.carried;
+            last = n.last;
+            is_last = n.is_last;
+            run = run_more;
+            image = n.image;
+          }
 
-  module _ (stop : Stop) (p : PlayedTo x text stop lines waiting left old now) where
-    -- the replies that waited are written
-    written : Appended now next waiting.bytes → Appended old next (output_from [] x 1 [] p.done)
-    written a = all_written x p.done waiting old now p.waits text p.after p.first next a
-
-    front : Appended now next waiting.bytes → AppendedFront old next (script_output x text [])
-    front a = as_front x p.done waiting old now p.waits text p.after p.first next a
-
-    as_lines : Appended now next waiting.bytes → AppendedLines x text lines old next
-    as_lines a = lines_of x p.done waiting old now p.waits text p.after p.first next lines p.count a
-
-    -- the sink failed at them
-    as_cut : (done : ℕ) → Cut waiting done now next → AppendedCut x text done old next
-    as_cut done c = cut_of x p.done waiting old now p.waits text p.after p.first next done c
-
-  ends_to : (stop : Stop) → PlayedTo x text stop lines waiting left old now → Appended now next waiting.bytes → EndsAt x text stop (line_of stop lines) lines left old next
-  ends_to End p a = (p.stops.0, p.stops.2, whole p.done p.stops.1 (written End p a), p.count ∙ sym (ap length p.stops.1))
-  ends_to BadLine p a = (p.stops.0 ∙ ap (λ n. Not_in_grammar (n + 1)) (sym p.count), whole p.done p.stops.1 (written BadLine p a), p.count ∙ sym (ap length p.stops.1))
-  ends_to TooLong p a = (p.stops.0 ∙ ap (λ n. Too_long (n + 1)) (sym p.count), whole p.done p.stops.1 (written TooLong p a), p.count ∙ sym (ap length p.stops.1))
-  ends_to SourceFailed p a =
-      record { done = p.done; taken = p.stops; good = p.good; written = written SourceFailed p a; count = p.count; front = front SourceFailed p a }
-  ends_to Memory p a = as_lines Memory p a
-  ends_to SinkFailed p a = absurd p.stops
-
-  pub ends_written : (stop : Stop) → stop ≢ SinkFailed → Played x text stop lines waiting left old now → Appended now next waiting.bytes → EndsAt x text stop (line_of stop lines) lines left old next
-  ends_written stop other p a = ends_to stop (played_to stop other p) a
-
-  pub ends_cut : (stop : Stop) → stop ≢ SinkFailed → Played x text stop lines waiting left old now → (done : ℕ) → Cut waiting done now next → AppendedCut x text done old next
-  ends_cut stop other p done c = as_cut stop (played_to stop other p) done c
-
--- an end that tells the stop and the lines
-pub ends_by : (x : Setting) (text : List ℕ) (stop : Stop) (lines : ℕ) (e : Exit) (left old new : Option (List ℕ)) → stop_of_status e.status ≡ stop → e.line ≡ line_of stop lines → e.lines_done ≡ lines
-    → EndsAt x text stop (line_of stop lines) lines left old new → EndsAt x text (stop_of_status e.status) e.line e.lines_done left old new
-ends_by x text stop lines e left old new is line done ends =
-    subst (λ s. EndsAt x text s e.line e.lines_done left old new) (sym is)
-    (subst (λ n. EndsAt x text stop n e.lines_done left old new) (sym line) (subst (λ n. EndsAt x text stop (line_of stop lines) n left old new) (sym done) ends))
-
--- ---- statuses
-
-pub known_status : (stop : Stop) → is_status (status_of stop) ≡ true
-known_status End = refl
-known_status SourceFailed = refl
-known_status SinkFailed = refl
-known_status Memory = refl
-known_status BadLine = refl
-known_status TooLong = refl
-
-pub status_three : (stop : Stop) → status_of stop ≡ 3 → stop ≡ SourceFailed
-status_three End e = absurd (omega arith)
-status_three SourceFailed e = refl
-status_three SinkFailed e = absurd (omega arith)
-status_three Memory e = absurd (omega arith)
-status_three BadLine e = absurd (omega arith)
-status_three TooLong e = absurd (omega arith)
-
-pub status_four : (stop : Stop) → status_of stop ≡ 4 → stop ≡ SinkFailed
-status_four End e = absurd (omega arith)
-status_four SourceFailed e = absurd (omega arith)
-status_four SinkFailed e = refl
-status_four Memory e = absurd (omega arith)
-status_four BadLine e = absurd (omega arith)
-status_four TooLong e = absurd (omega arith)
-
--- without a fault, a text whose lines are all good ends with 0, or for want of memory
-nat_tells : (a b : ℕ) → (a ≡ b) ⊎ (a ≢ b)
-nat_tells a b = elim (eqb_tells a b) [ inl h ↦ inl h.1 | inr h ↦ inr h.1 ]
-
-pub complete : (x : Setting) (text : List ℕ) (status line lines : ℕ) (left old new : Option (List ℕ)) → is_status status ≡ true → EndsAt x text (stop_of_status status) line lines left old new
-    → stop_of text ≡ At_the_end → (status ≡ 3 → ⊥) → (status ≡ 4 → ⊥) → (status ≡ 0) ⊎ (status ≡ 5)
-complete x text status line lines left old new known ends whole source sink = by (nat_tells status 6) (nat_tells status 7) where
-  bad : status ≡ 6 → ⊥
-  bad six = let e = subst (λ s. EndsAt x text (stop_of_status s) line lines left old new) six ends in let f : Not_in_grammar line ≡ At_the_end = sym e.0 ∙ whole in cc
-
-  long : status ≡ 7 → ⊥
-  long seven = let e = subst (λ s. EndsAt x text (stop_of_status s) line lines left old new) seven ends in let f : Too_long line ≡ At_the_end = sym e.0 ∙ whole in cc
-
-  rest : (status ≡ 6 → ⊥) → (status ≡ 7 → ⊥) → ((status ≡ 0) ⊎ (status ≢ 0)) → (status ≡ 0) ⊎ (status ≡ 5)
-  rest six seven (inl zero) = inl zero
-  rest six seven (inr other) = inr (let five : status ≡ 5 = grind (arith, nat_tests, known, other, source, sink, six, seven) in five)
-
-  by : ((status ≡ 6) ⊎ (status ≢ 6)) → ((status ≡ 7) ⊎ (status ≢ 7)) → (status ≡ 0) ⊎ (status ≡ 5)
-  by (inl six) seven = absurd (bad six)
-  by (inr six) (inl seven) = absurd (long seven)
-  by (inr six) (inr seven) = rest six seven (nat_tells status 0)
+  -- the replies that wait are written, or wait still
+  abbrev pub so_flushed : (next : Option (List ℕ)) (kept : Replies) → Flushed p.waiting kept now next → SoFar text lines engine (record p { waiting = kept }) old next size before content
+  so_flushed next kept f = record {
+    done = g.done;
+    good = g.good;
+    count = g.count;
+    numbers = g.numbers;
+    last = g.last;
+    is_last = record { low = g.is_last.low; early = g.is_last.early; line = line_flushed p.waiting kept now next g.last f g.is_last.line };
+    run = λ x s. let r = g.run x s in record { stands = r.stands; waits = waits_flushed x p.failures.items g.done p.waiting old now r.waits kept next f };
+    image = g.image;
+  }

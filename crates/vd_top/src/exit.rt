@@ -1,14 +1,18 @@
 //! How a script ended.
 
-ghost use Rattle.std.specs.Prelude.{◌≡◌, ◌<◌, ◌/◌, ◌^◌, ℕ, List, [], Some, true, false};
+ghost use Rattle.std.specs.Prelude.{◌≡◌, ◌<◌, ◌/◌, ◌^◌, ◌+◌, ℕ, List, [], Some, true, false, length};
 ghost use Rattle.vd_io.specs.Told.{Rose};
 ghost use Rattle.vd_model.specs.Setting.{Setting};
+ghost use Rattle.vd_output.specs.Out.{good_lines};
 ghost use Rattle.vd_device.specs.Sizes.{AreFit, IsSized};
-ghost use Rattle.vd_top.specs.Written.{EndsAt, stop_of_status, is_status, is_line_status};
+ghost use Rattle.vd_engine.specs.Image.{IsImage};
+ghost use Rattle.vd_top.specs.Executes.{AreFailures, AreUpTo, RoseBy, executes};
+ghost use Rattle.vd_top.specs.Pictures.{ImageAt};
+ghost use Rattle.vd_top.specs.Written.{StopsBy, WritesBy, stop_of_status, is_status, is_line_status};
 ghost use Rattle.vd_top.specs.Played.{status_of, line_of, is_own};
 
-use crate::script::{Responder, Stop, play};
-use crate::waiting::Waiting;
+use crate::progress::{Progress, Stop};
+use crate::script::{Responder, play};
 use std::alloc::Global;
 use vd_engine::Sizes;
 use vd_io::{Image, Sink, Source};
@@ -27,40 +31,31 @@ pub struct Exit {
     pub disk_failures: Lines,
 }
 
-/// An end at which the image never failed.
-fn exit_at(alloc: Global, status: u8, line: u64, lines_done: u64) -> Exit
-    ensures status { result.status ≡ status }
-    ensures line { result.line ≡ line }
-    ensures lines_done { result.lines_done ≡ lines_done }
-    ensures disk_failures { result.disk_failures ≡ [] }
-{
-    Exit {
-        status,
-        line,
-        lines_done,
-        disk_failures: Lines::new(alloc),
-    }
-}
-
-/// The end of a script that stopped so.
-fn ended(alloc: Global, stop: Stop, lines: u64) -> Exit
-    requires { is_own stop ≡ true → lines < 2 ^ 62 }
-    ensures stop { stop_of_status result.status ≡ stop }
-    ensures status { result.status ≡ status_of stop }
-    ensures line { result.line ≡ line_of stop lines }
+/// The end of a script that stopped so, where the image failed at these lines.
+fn ended(progress: Progress, disk_failures: Lines) -> Exit
+    requires { is_own progress.stop ≡ true → progress.lines < 2 ^ 62 }
+    ensures stop { stop_of_status result.status ≡ progress.stop }
+    ensures status { result.status ≡ status_of progress.stop }
+    ensures line { result.line ≡ line_of progress.stop progress.lines }
     ensures no_line { is_line_status result.status ≡ false → result.line ≡ 0 }
-    ensures lines_done { result.lines_done ≡ lines }
-    ensures disk_failures { result.disk_failures ≡ [] }
+    ensures lines_done { result.lines_done ≡ progress.lines }
+    ensures disk_failures { result.disk_failures ≡ disk_failures }
 {
-    let (status, line) = match stop {
+    let lines_done = progress.lines;
+    let (status, line) = match progress.stop {
         Stop::End => (0, 0),
         Stop::SourceFailed => (3, 0),
         Stop::SinkFailed => (4, 0),
         Stop::Memory => (5, 0),
-        Stop::BadLine => (6, lines + 1),
-        Stop::TooLong => (7, lines + 1),
+        Stop::BadLine => (6, lines_done + 1),
+        Stop::TooLong => (7, lines_done + 1),
     };
-    exit_at(alloc, status, line, lines)
+    Exit {
+        status,
+        line,
+        lines_done,
+        disk_failures,
+    }
 }
 
 /// The sizes that options ask for.
@@ -85,24 +80,39 @@ pub fn run<S: Source, K: Sink, I: Image>(
     disk: &mut I,
 ) -> Exit
     requires { AreFit sizes }
-    ensures ended { (x : Setting) (text : List ℕ) → IsSized x sizes → S.left source.old ≡ Some text →
-        EndsAt x text (stop_of_status result.status) result.line result.lines_done (S.left source.new) (K.held sink.old) (K.held sink.new) }
+    ensures stopped { (text : List ℕ) → S.left source.old ≡ Some text →
+        StopsBy text (stop_of_status result.status) result.line result.lines_done (S.left source.new) }
+    ensures written { (x : Setting) (text : List ℕ) → IsSized x sizes → x.sectors ≡ I.size disk.old → S.left source.old ≡ Some text →
+        (executes text ≡ true → IsImage x [] (I.size disk.old) (I.content disk.old)) →
+        WritesBy x text result.disk_failures (stop_of_status result.status) result.lines_done (K.held sink.old) (K.held sink.new) }
+    ensures image { (x : Setting) (text : List ℕ) → IsSized x sizes → S.left source.old ≡ Some text → IsImage x [] (I.size disk.old) (I.content disk.old) →
+        ImageAt x text result.disk_failures (stop_of_status result.status) result.lines_done (I.size disk.new) (I.content disk.new) }
+    ensures failures { (text : List ℕ) → S.left source.old ≡ Some text →
+        AreFailures (good_lines text) result.disk_failures × AreUpTo (result.lines_done + 1) result.disk_failures }
+    ensures untouched { (text : List ℕ) → S.left source.old ≡ Some text → executes text ≡ false →
+        (disk.new ≡ disk.old) × (result.disk_failures ≡ []) }
+    ensures size { I.size disk.new ≡ I.size disk.old }
+    ensures counted { RoseBy (length result.disk_failures) (I.faults disk.old) (I.faults disk.new) }
     ensures source_failed { result.status ≡ 3 → Rose (S.faults source.old) (S.faults source.new) }
     ensures sink_failed { result.status ≡ 4 → Rose (K.faults sink.old) (K.faults sink.new) }
     ensures known { is_status result.status ≡ true }
     ensures no_line { is_line_status result.status ≡ false → result.line ≡ 0 }
-    ensures image { disk.new ≡ disk.old }
-    ensures disk_failures { result.disk_failures ≡ [] }
 {
-    let mut responder = Responder::new(alloc, sizes);
-    let mut waiting = Waiting::new(alloc);
-    let played = play(&mut responder, &mut waiting, source, sink, disk);
-    responder.end();
-    match played.stop {
-        Stop::SinkFailed => ended(alloc, Stop::SinkFailed, played.lines),
-        stop => match waiting.write(sink) {
-            Ok(()) => ended(alloc, stop, played.lines),
-            Err(written) => ended(alloc, Stop::SinkFailed, written),
+    let mut responder = Responder::new(alloc, sizes, disk.sectors());
+    let progress = play(&mut responder, source, sink, disk);
+    let (mut waiting, failures) = responder.end();
+    let disk_failures = Lines::from_vec(failures);
+    match progress.stop {
+        Stop::SinkFailed => ended(progress, disk_failures),
+        _ => match waiting.write(sink) {
+            Ok(()) => ended(progress, disk_failures),
+            Err(written) => ended(
+                Progress {
+                    stop: Stop::SinkFailed,
+                    lines: written,
+                },
+                disk_failures,
+            ),
         },
     }
 }
@@ -114,5 +124,10 @@ pub fn usage(alloc: Global) -> Exit
     ensures lines_done { result.lines_done ≡ 0 }
     ensures disk_failures { result.disk_failures ≡ [] }
 {
-    exit_at(alloc, 2, 0, 0)
+    Exit {
+        status: 2,
+        line: 0,
+        lines_done: 0,
+        disk_failures: Lines::new(alloc),
+    }
 }

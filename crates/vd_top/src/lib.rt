@@ -6,6 +6,8 @@
 
 mod exit;
 mod grammar;
+mod player;
+mod progress;
 mod script;
 mod top;
 mod waiting;

@@ -1,165 +1,106 @@
 //! The lines of a script, answered one after another.
 
-ghost use Rattle.std.specs.Prelude.{◌≡◌, ◌<◌, ◌≤◌, ◌^◌, ◌+◌, ℕ, List, [], IfOk, OnErr, OnOk, IsErr, IfErr, MatchResult, Some, true};
+ghost use Rattle.std.specs.Prelude.{◌≡◌, ◌<◌, ◌≤◌, ◌^◌, ◌+◌, ℕ, List, [], OnOk, IsErr, IfErr, MatchResult, Some, true, false, length};
 ghost use Rattle.vd_io.specs.Told.{Rose};
 ghost use Rattle.vd_model.specs.Setting.{Setting};
-ghost use Rattle.vd_model.specs.History.{History};
-ghost use Rattle.vd_output.specs.Served.{served};
-ghost use Rattle.vd_replies.specs.Adds.{HasRoom};
+ghost use Rattle.vd_output.specs.Served.{served_reading};
 ghost use Rattle.vd_device.specs.Sizes.{AreFit, IsSized};
 ghost use Rattle.vd_engine.specs.Machine.{StandsFor, IsReached};
+ghost use Rattle.vd_top.specs.Executes.{RoseBy, executes, is_execute_line};
 ghost use Rattle.vd_top.specs.Replies.{Cut, Flushed};
-ghost use Rattle.vd_top.specs.Played.{Stopped, Asked, Replied, Answered, Played, is_own};
+ghost use Rattle.vd_top.specs.Played.{Answered, StoppedBy, Played, is_own};
 
 use crate::grammar::{Line, read_line};
+use crate::player::Player;
+use crate::progress::{Progress, Stop};
 use crate::waiting::Waiting;
 use std::alloc::{AllocError, Global};
-use vd_engine::{Engine, Sizes};
+use vd_engine::Sizes;
 use vd_io::{Image, Sink, Source};
 use vd_lines::{LineReader, Next, ReadFault};
-use vd_model::Step;
-use vd_replies::{Printed, ROOM};
 
 /// How many bytes of replies wait at most before they are written.
 const FLUSH: usize = 65536;
 
-/// Why no line more is answered.
-#[derive(Clone, Copy, Debug, PartialEq, Eq)]
-pub enum Stop {
-    End,
-    SourceFailed,
-    SinkFailed,
-    Memory,
-    BadLine,
-    TooLong,
-}
-
-/// Plays a step, and prints its reply behind what is there.
-fn ask<I: Image>(
-    engine: &mut Engine,
-    disk: &mut I,
-    step: &Step<'_>,
-    reply: &mut Printed,
-) -> Result<(), AllocError>
-    requires room { engine.old.asked < 2 ^ 40 }
-    requires reached { IsReached engine.old }
-    requires served { served step.now ≡ true }
-    requires ready { HasRoom ROOM reply.old.bytes }
-    ensures ok { (x : Setting) (h : History) → StandsFor x h engine.old →
-        IfOk result (λ _. Asked x h step.now reply.old.bytes.items reply.new.bytes.items engine.new) }
-    ensures reached { IsReached engine.new }
-    ensures asked { engine.new.asked ≤ engine.old.asked + 1 }
-    ensures image { disk.new ≡ disk.old }
-{
-    match engine.play(disk, step, reply) {
-        Err(AllocError) => Err(AllocError),
-        Ok(_) => Ok(()),
-    }
-}
-
-/// What answers lines: the engine, and room for what a line spells and for its reply, which is used
-/// again for each line. The engine can't be dropped, so `end` ends it.
+/// What answers lines: a player, and room for what a line spells, which is used again for each line.
 pub struct Responder {
     pub alloc: Global,
-    pub engine: Engine,
     pub scratch: Vec<u8>,
-    pub reply: Printed,
+    pub player: Player,
 }
 
 impl Responder {
-    /// It answers with an engine without devices, each of which will have these sizes.
-    pub fn new(alloc: Global, sizes: Sizes) -> Responder
+    /// It answers with an engine without devices, each of which will have these sizes, for an image of so many sectors.
+    pub fn new(alloc: Global, sizes: Sizes, sectors: u64) -> Responder
         requires { AreFit sizes }
-        ensures stands { (x : Setting) → IsSized x sizes → StandsFor x [] result.engine }
-        ensures reached { IsReached result.engine }
-        ensures asked { result.engine.asked ≡ 0 }
+        ensures stands { (x : Setting) → IsSized x sizes → x.sectors ≡ sectors → StandsFor x [] result.player.engine }
+        ensures sectors { result.player.engine.sectors ≡ sectors }
+        ensures reached { IsReached result.player.engine }
+        ensures asked { result.player.engine.asked ≡ 0 }
+        ensures waiting { result.player.waiting.bytes ≡ [] }
+        ensures failures { result.player.failures.items ≡ [] }
     {
         Responder {
             alloc,
-            engine: Engine::new(alloc, sizes),
             scratch: Vec::new(alloc),
-            reply: Printed {
-                bytes: Vec::new(alloc),
-            },
+            player: Player::new(alloc, sizes, sectors),
         }
     }
 
-    /// Ends the engine.
-    pub fn end(self)
-        requires { IsReached self.engine }
+    /// Ends the engine, and gives the replies that wait and the lines at which the image failed.
+    pub fn end(self) -> (Waiting, Vec<u64>)
+        requires { IsReached self.player.engine }
+        ensures waiting { result.0 ≡ self.player.waiting }
+        ensures failures { result.1.items ≡ self.player.failures.items }
     {
         let Responder {
             alloc: _,
-            engine,
             scratch: _,
-            reply: _,
+            player,
         } = self;
-        engine.end();
+        player.end()
     }
 
-    /// Empties the reply, and takes room for the next one.
-    fn clear(&mut self) -> Result<(), AllocError>
-        ensures engine { self.new.engine ≡ self.old.engine }
-        ensures none { OnOk result (self.new.reply.bytes.items ≡ []) }
-        ensures room { OnOk result (HasRoom ROOM self.new.reply.bytes) }
+    /// Answers a line before which so many others stand. Its reply waits with the others then.
+    fn answer<K: Sink, I: Image>(
+        &mut self,
+        line: &[u8],
+        lines: u64,
+        sink: &mut K,
+        disk: &mut I,
+    ) -> Result<(), Progress>
+        requires few { lines < 2 ^ 62 }
+        requires room { self.old.player.engine.asked < 2 ^ 40 }
+        requires reached { IsReached self.old.player.engine }
+        requires disk { I.size disk.old ≡ self.old.player.engine.sectors }
+        ensures answered { MatchResult result
+            (λ _. Answered (served_reading line.now) lines self.old.player self.new.player (K.held sink.old) (K.held sink.new)
+            (I.size disk.old) (I.content disk.old) (I.content disk.new))
+            (λ p. StoppedBy p.stop p.lines (served_reading line.now) lines self.old.player self.new.player (K.held sink.old) (K.held sink.new)
+            (I.size disk.old) (I.content disk.old) (I.content disk.new)) }
+        ensures reached { IsReached self.new.player.engine }
+        ensures asked { self.new.player.engine.asked ≤ self.old.player.engine.asked + 1 }
+        ensures sectors { self.new.player.engine.sectors ≡ self.old.player.engine.sectors }
+        ensures only_execute { is_execute_line line.now ≡ false → disk.new ≡ disk.old }
+        ensures size { I.size disk.new ≡ I.size disk.old }
+        ensures counted { (start : ℕ) → RoseBy (length self.old.player.failures.items) start (I.faults disk.old) →
+            RoseBy (length self.new.player.failures.items) start (I.faults disk.new) }
+        ensures later { K.faults sink.old ≤ K.faults sink.new }
+        ensures sink_failed { IfErr result (λ p. p.stop ≡ Stop.SinkFailed → Rose (K.faults sink.old) (K.faults sink.new)) }
     {
-        self.reply.bytes.clear();
-        self.reply.bytes.reserve(ROOM)
-    }
-
-    /// Answers a line, and prints its reply in place of the last one.
-    fn answer<I: Image>(&mut self, disk: &mut I, line: &[u8]) -> Result<(), Stop>
-        requires room { self.old.engine.asked < 2 ^ 40 }
-        requires reached { IsReached self.old.engine }
-        ensures ok { (x : Setting) (h : History) → StandsFor x h self.old.engine →
-            MatchResult result (λ _. Replied x h line.now self.new.reply.bytes.items self.new.engine) (Stopped line.now) }
-        ensures reached { IsReached self.new.engine }
-        ensures asked { self.new.engine.asked ≤ self.old.engine.asked + 1 }
-        ensures own { IfErr result (λ stop. is_own stop ≡ true) }
-        ensures image { disk.new ≡ disk.old }
-    {
-        match self.clear() {
-            Err(AllocError) => return Err(Stop::Memory),
-            Ok(()) => {}
-        }
         let step = match read_line(self.alloc, &mut self.scratch, line) {
-            Err(AllocError) => return Err(Stop::Memory),
-            Ok(Line::Bad) => return Err(Stop::BadLine),
+            Err(AllocError) => return Err(Progress {
+                stop: Stop::Memory,
+                lines,
+            }),
+            Ok(Line::Bad) => return Err(Progress {
+                stop: Stop::BadLine,
+                lines,
+            }),
             Ok(Line::Nothing) => return Ok(()),
             Ok(Line::Asks(step)) => step,
         };
-        match ask(&mut self.engine, disk, &step, &mut self.reply) {
-            Err(AllocError) => Err(Stop::Memory),
-            Ok(()) => Ok(()),
-        }
-    }
-}
-
-/// Answers a line before which so many others stand, and adds its reply to those that wait.
-fn answer_onto<I: Image>(
-    responder: &mut Responder,
-    disk: &mut I,
-    line: &[u8],
-    lines: u64,
-    waiting: &mut Waiting,
-) -> Result<(), Stop>
-    requires room { responder.old.engine.asked < 2 ^ 40 }
-    requires reached { IsReached responder.old.engine }
-    ensures ok { (x : Setting) (h : History) → StandsFor x h responder.old.engine →
-        MatchResult result (λ _. Answered x h line.now lines waiting.old waiting.new responder.new.engine) (Stopped line.now) }
-    ensures reached { IsReached responder.new.engine }
-    ensures asked { responder.new.engine.asked ≤ responder.old.engine.asked + 1 }
-    ensures kept { OnErr result (waiting.new ≡ waiting.old) }
-    ensures own { IfErr result (λ stop. is_own stop ≡ true) }
-    ensures image { disk.new ≡ disk.old }
-{
-    match responder.answer(disk, line) {
-        Err(stop) => return Err(stop),
-        Ok(()) => {}
-    }
-    match waiting.add(responder.reply.bytes.as_slice(), lines) {
-        Err(AllocError) => Err(Stop::Memory),
-        Ok(()) => Ok(()),
+        self.player.play(&step, lines, sink, disk)
     }
 }
 
@@ -177,35 +118,31 @@ fn flush<K: Sink>(waiting: &mut Waiting, sink: &mut K) -> Result<(), u64>
     waiting.write(sink)
 }
 
-/// Where a script has come: why it stopped, and how many lines were answered; where the sink
-/// failed, to how many lines the replies were written whole.
-#[derive(Clone, Copy, Debug, PartialEq, Eq)]
-pub struct Progress {
-    pub stop: Stop,
-    pub lines: u64,
-}
-
 /// Answers the lines that the source gives, until there is none or one stops the run. The replies
-/// are written in large pieces; the last of them are left to wait.
+/// are written in large pieces, and before an execute; the last of them are left to wait.
 pub fn play<S: Source, K: Sink, I: Image>(
     responder: &mut Responder,
-    waiting: &mut Waiting,
     source: &mut S,
     sink: &mut K,
     disk: &mut I,
 ) -> Progress
-    requires asked { responder.old.engine.asked ≡ 0 }
-    requires reached { IsReached responder.old.engine }
-    requires empty { waiting.old.bytes ≡ [] }
-    ensures played { (x : Setting) (text : List ℕ) → StandsFor x [] responder.old.engine → S.left source.old ≡ Some text →
-        Played x text result.stop result.lines waiting.new (S.left source.new) (K.held sink.old) (K.held sink.new) }
+    requires asked { responder.old.player.engine.asked ≡ 0 }
+    requires reached { IsReached responder.old.player.engine }
+    requires waiting { responder.old.player.waiting.bytes ≡ [] }
+    requires failures { responder.old.player.failures.items ≡ [] }
+    requires disk { I.size disk.old ≡ responder.old.player.engine.sectors }
+    ensures played { (text : List ℕ) → S.left source.old ≡ Some text →
+        Played text result.stop result.lines responder.old.player.engine responder.new.player (S.left source.new) (K.held sink.old) (K.held sink.new)
+        (I.size disk.old) (I.content disk.old) (I.content disk.new) }
+    ensures untouched { (text : List ℕ) → S.left source.old ≡ Some text → executes text ≡ false → disk.new ≡ disk.old }
+    ensures size { I.size disk.new ≡ I.size disk.old }
+    ensures counted { RoseBy (length responder.new.player.failures.items) (I.faults disk.old) (I.faults disk.new) }
     ensures source_failed { result.stop ≡ Stop.SourceFailed → Rose (S.faults source.old) (S.faults source.new) }
     ensures sink_failed { result.stop ≡ Stop.SinkFailed → Rose (K.faults sink.old) (K.faults sink.new) }
     ensures source_later { S.faults source.old ≤ S.faults source.new }
     ensures sink_later { K.faults sink.old ≤ K.faults sink.new }
-    ensures reached { IsReached responder.new.engine }
+    ensures reached { IsReached responder.new.player.engine }
     ensures few { is_own result.stop ≡ true → result.lines < 2 ^ 62 }
-    ensures image { disk.new ≡ disk.old }
 {
     let mut reader = LineReader::new(responder.alloc);
     let mut lines = 0;
@@ -213,9 +150,8 @@ pub fn play<S: Source, K: Sink, I: Image>(
         match reader.advance(source) {
             Ok(Next::Line) => {}
             Ok(Next::Last) => {
-                let line = reader.line();
-                return match answer_onto(responder, disk, line, lines, waiting) {
-                    Err(stop) => Progress { stop, lines },
+                return match responder.answer(reader.line(), lines, sink, disk) {
+                    Err(progress) => progress,
                     Ok(()) => Progress {
                         stop: Stop::End,
                         lines: lines + 1,
@@ -239,12 +175,12 @@ pub fn play<S: Source, K: Sink, I: Image>(
                 lines,
             },
         }
-        match answer_onto(responder, disk, reader.line(), lines, waiting) {
-            Err(stop) => return Progress { stop, lines },
+        match responder.answer(reader.line(), lines, sink, disk) {
+            Err(progress) => return progress,
             Ok(()) => {}
         }
         lines += 1;
-        match flush(waiting, sink) {
+        match flush(&mut responder.player.waiting, sink) {
             Err(written) => return Progress {
                 stop: Stop::SinkFailed,
                 lines: written,

@@ -3,12 +3,35 @@
 use super::Row;
 
 /// The rows.
-pub fn rows() -> [Row; 5] {
+pub fn rows() -> [Row; 6] {
     [
         Row {
             name: "empty-input",
             words: &["run"],
             lines: &[],
+        },
+        // the image has 8 sectors
+        Row {
+            name: "image-windows",
+            words: &["run"],
+            lines: &[
+                ("image v 0 0", "err 19"),
+                ("dev v", "ok session 0"),
+                ("dev w", "ok session 0"),
+                ("image v 0 0", "err 22"),
+                ("image v 5 4", "err 28"),
+                ("image v 18446744073709551615 1", "err 28"),
+                ("image v 0 4", "ok"),
+                ("image v 0 0", "err 17"),
+                ("image w 3 4", "err 16"),
+                ("image w 4 4", "ok"),
+                ("detach v", "ok"),
+                ("close v", "ok"),
+                ("destroy v", "ok"),
+                ("image v 4 4", "err 19"),
+                ("dev v", "ok session 0"),
+                ("image v 4 4", "err 17"),
+            ],
         },
         Row {
             name: "control-node",

@@ -1,6 +1,6 @@
 //! How a run ends: its words, faults of the outside, and a reply that is written in part.
 
-use super::{Case, Outside, SOUND, check};
+use super::{Case, Outside, Row, SOUND, check, check_row};
 use std::test::Fail;
 
 #[test]
@@ -55,7 +55,7 @@ fn lines_stop_a_run(rt: HostRuntime) -> Result<(), Fail> {
         // a form that isn't served
         Case {
             words: &run,
-            script: "version\nimage v 0 1\n",
+            script: "version\nsubmit v 0 flush\n",
             replies: "ok 0\n",
             status: 6,
             line: 2,
@@ -118,5 +118,48 @@ fn part_of_a_reply(rt: HostRuntime) -> Result<(), Fail> {
     };
     let small = Outside { room: 20, ..SOUND };
     check(&rt, rt.alloc(), &case, small, "part")?;
+    Ok(())
+}
+
+/// A request that writes a sector.
+const WRITE: Row = Row {
+    name: "write",
+    words: &["run"],
+    lines: &[
+        ("dev v", "ok session 0"),
+        ("image v 2 4", "ok"),
+        (
+            "ring v 0 4",
+            "ok 0 desc 0x7fff000 driver 0x7fff040 device 0x7fff050",
+        ),
+        ("vqnum v 0 4", "ok"),
+        ("vqaddr v 0 0x7fff000 0x7fff040 0x7fff050", "ok"),
+        ("vqready v 0 1", "ok"),
+        ("buf v 01000000000000000100000000000000", "ok 0"),
+        ("zeros v 512", "ok 1"),
+        ("zeros v 1", "ok 2"),
+        ("map v 0 0 16 to", "ok 0 iova 0x3fff000"),
+        ("map v 1 0 512 to", "ok 1 iova 0x3ffe000"),
+        ("map v 2 0 1 from", "ok 2 iova 0x3ffd000"),
+        (
+            "add v 0 r:0x3fff000:16 r:0x3ffe000:512 w:0x3ffd000:1",
+            "ok head 0",
+        ),
+        ("publish v 0", "ok idx 1 kick 1"),
+        ("fetch v 0", "ok head 0 type 1 sector 1"),
+        ("execute v 0", "ok status 1"),
+        ("finish v 0", "ok len 1 irq 1"),
+    ],
+};
+
+/// The image fails at its first call: the request ends with an I/O error, and the execute's line is told.
+#[test]
+fn the_image_fails(rt: HostRuntime) -> Result<(), Fail> {
+    let failing = Outside {
+        image: &[0],
+        ..SOUND
+    };
+    let failures = check_row(&rt, rt.alloc(), &WRITE, failing)?;
+    assert_eq!(rt; failures.as_slice(), [16].as_slice(), "the execute's line");
     Ok(())
 }

@@ -1,9 +1,9 @@
-//! Rows on rings and chains, as far as they ask for no block request.
+//! Rows on rings and chains.
 
 use super::Row;
 
 /// The rows.
-pub fn rows() -> [Row; 7] {
+pub fn rows() -> [Row; 8] {
     [
         Row {
             name: "driver-ring",
@@ -63,6 +63,8 @@ pub fn rows() -> [Row; 7] {
                 ("vqready v 0 1", "ok"),
                 ("add v 0 r:0x1000:16 w:0x3fff000:1", "ok head 0"),
                 ("publish v 0", "ok idx 1 kick 1"),
+                ("fetch v 0", "bus 0x1000"),
+                ("fetch v 0", "bus 0x1000"),
             ],
         },
         Row {
@@ -78,6 +80,7 @@ pub fn rows() -> [Row; 7] {
                 ("vqaddr v 0 0x7fff000 0x7fff040 0x7fff050", "ok"),
                 ("vqready v 0 1", "ok"),
                 ("vqaddr v 0 0x7fff000 0xfffffffffffffffe 0x7fff050", "ok"),
+                ("fetch v 0", "bus 0x0"),
             ],
         },
         Row {
@@ -93,6 +96,9 @@ pub fn rows() -> [Row; 7] {
                 ("vqaddr v 0 0x7fff000 0x7fff040 0x7fff050", "ok"),
                 ("vqready v 0 1", "ok"),
                 ("cput v 0 66 0500", "ok"),
+                ("fetch v 0", "ahead 5 0"),
+                ("cput v 0 66 0000", "ok"),
+                ("fetch v 0", "err 11"),
             ],
         },
         Row {
@@ -109,6 +115,7 @@ pub fn rows() -> [Row; 7] {
                 ("vqready v 0 1", "ok"),
                 ("add v 0 r:0x3fff000:16", "ok head 0"),
                 ("publish v 0", "ok idx 1 kick 1"),
+                ("fetch v 0", "shape 16 0"),
             ],
         },
         Row {
@@ -124,6 +131,75 @@ pub fn rows() -> [Row; 7] {
                 ("vqaddr v 0 0x7fff000 0x7fff040 0x7fff050", "ok"),
                 ("vqready v 0 1", "ok"),
                 ("vqaddr v 0 0 0 0", "ok"),
+                ("fetch v 0", "bus 0x2"),
+            ],
+        },
+        Row {
+            name: "requests-by-hand",
+            words: &["run"],
+            lines: &[
+                ("dev v", "ok session 0"),
+                ("image v 2 4", "ok"),
+                (
+                    "ring v 0 4",
+                    "ok 0 desc 0x7fff000 driver 0x7fff040 device 0x7fff050",
+                ),
+                ("vqnum v 0 4", "ok"),
+                ("vqaddr v 0 0x7fff000 0x7fff040 0x7fff050", "ok"),
+                ("fetch v 0", "err 22"),
+                ("vqready v 0 1", "ok"),
+                ("fetch v 1", "err 22"),
+                ("execute v 1", "err 22"),
+                ("finish v 1", "err 22"),
+                ("fetch v 0", "err 11"),
+                ("buf v 01000000000000000100000000000000", "ok 0"),
+                ("zeros v 512", "ok 1"),
+                ("poke v 1 0 6162", "ok"),
+                ("zeros v 1", "ok 2"),
+                ("map v 0 0 16 to", "ok 0 iova 0x3fff000"),
+                ("map v 1 0 512 to", "ok 1 iova 0x3ffe000"),
+                ("map v 2 0 1 from", "ok 2 iova 0x3ffd000"),
+                (
+                    "add v 0 r:0x3fff000:16 r:0x3ffe000:512 w:0x3ffd000:1",
+                    "ok head 0",
+                ),
+                ("fetch v 0", "err 11"),
+                ("publish v 0", "ok idx 1 kick 1"),
+                ("execute v 0", "err 2"),
+                ("finish v 0", "err 2"),
+                ("fetch v 0", "ok head 0 type 1 sector 1"),
+                ("fetch v 0", "err 16"),
+                ("finish v 0", "err 2"),
+                ("close v", "ok"),
+                ("execute v 0", "err 9"),
+                ("open v", "ok session 1"),
+                ("execute v 0", "err 2"),
+                ("fetch v 0", "ok head 0 type 1 sector 1"),
+                ("execute v 0", "ok status 0"),
+                ("execute v 0", "err 2"),
+                ("finish v 0", "ok len 1 irq 1"),
+                ("finish v 0", "err 2"),
+                ("poll v 0", "ok head 0 len 1"),
+                ("unmap v 0", "ok"),
+                ("unmap v 1", "ok"),
+                ("unmap v 2", "ok"),
+                ("peek v 2 0 1", "ok 00"),
+                ("buf v 00000000000000000100000000000000", "ok 3"),
+                ("zeros v 512", "ok 4"),
+                ("map v 3 0 16 to", "ok 3 iova 0x3fff000"),
+                ("map v 4 0 512 from", "ok 4 iova 0x3ffe000"),
+                ("map v 2 0 1 from", "ok 5 iova 0x3ffd000"),
+                (
+                    "add v 0 r:0x3fff000:16 w:0x3ffe000:512 w:0x3ffd000:1",
+                    "ok head 0",
+                ),
+                ("publish v 0", "ok idx 2 kick 1"),
+                ("fetch v 0", "ok head 0 type 0 sector 1"),
+                ("execute v 0", "ok status 0"),
+                ("finish v 0", "ok len 513 irq 1"),
+                ("poll v 0", "ok head 0 len 513"),
+                ("unmap v 4", "ok"),
+                ("peek v 4 0 3", "ok 616200"),
             ],
         },
     ]

@@ -1,21 +1,25 @@
-use Rattle.std.proofs.Common.{ℕ, ◌≡◌, ◌≤◌, ◌+◌, ◌-◌, List, [], Some, length}
-use Rattle.vd_model.specs.Setting.{Setting}
-use Rattle.vd_engine.specs.Machine.{StandsFor, IsReached}
-use Rattle.vd_top.proofs.Plays.{Playing}
+use Rattle.std.proofs.Common.{ℕ, ◌≡◌, ◌≤◌, ◌+◌, ◌-◌, List, [], Some, length, false}
+use Rattle.vd_engine.specs.Machine.{IsReached}
+use Rattle.vd_top.specs.Executes.{executes, RoseBy}
+use Rattle.vd_top.proofs.Halts.{Playing}
 use Rattle.vd_top.proofs.script.play.Given as goal
 
-abbrev pub invariant-loop-reader : goal.invariant-loop-reader
-invariant-loop-reader g l = record {
-  playing : (x : Setting) (text : List ℕ) → StandsFor x [] l.fn.responder.engine → g.S.Source.left l.fn.source ≡ Some text
-      → Playing x text l.lines l.waiting l.responder.engine l.reader (g.S.Source.left l.source) (g.K.Sink.held l.fn.sink) (g.K.Sink.held l.sink);
-  reached : IsReached l.responder.engine;
-  asked : l.responder.engine.asked ≤ l.lines;
+abbrev pub invariant-loop-responder : goal.invariant-loop-responder
+invariant-loop-responder g l = record {
+  playing : (text : List ℕ) → g.S.Source.left l.fn.source ≡ Some text
+      → Playing text l.lines l.fn.responder.player.engine l.responder.player l.reader (g.S.Source.left l.source) (g.K.Sink.held l.fn.sink) (g.K.Sink.held l.sink)
+      (g.I.Image.size l.fn.disk) (g.I.Image.content l.fn.disk) (g.I.Image.content l.disk);
+  untouched : (text : List ℕ) → g.S.Source.left l.fn.source ≡ Some text → executes text ≡ false → l.disk ≡ l.fn.disk;
+  size : g.I.Image.size l.disk ≡ g.I.Image.size l.fn.disk;
+  counted : RoseBy (length l.responder.player.failures.items) (g.I.Image.faults l.fn.disk) (g.I.Image.faults l.disk);
+  reached : IsReached l.responder.player.engine;
+  sectors : l.responder.player.engine.sectors ≡ l.fn.responder.player.engine.sectors;
+  asked : l.responder.player.engine.asked ≤ l.lines;
   room : l.lines + (67108864 - l.reader.taken + length l.reader.pending) ≤ 67108864;
   taken : l.reader.taken ≤ 67108864;
   source : g.S.Source.faults l.fn.source ≤ g.S.Source.faults l.source;
   sink : g.K.Sink.faults l.fn.sink ≤ g.K.Sink.faults l.sink;
-  image : l.disk ≡ l.fn.disk;
 }
 
-abbrev pub decreases-loop-reader : goal.decreases-loop-reader
-decreases-loop-reader g l = 67108864 - l.reader.taken + length l.reader.pending
+abbrev pub decreases-loop-responder : goal.decreases-loop-responder
+decreases-loop-responder g l = 67108864 - l.reader.taken + length l.reader.pending

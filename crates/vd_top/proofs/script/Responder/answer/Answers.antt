@@ -1,21 +1,18 @@
-use Rattle.std.proofs.Common.{◌≡◌, sym, subst, [], Some}
+use Rattle.std.proofs.Common.{◌≡◌, refl, sym, subst, None, Some}
 use Rattle.vd_output.specs.Served.{served_reading}
-use Rattle.vd_engine.specs.Machine.{StandsFor}
-use Rattle.vd_top.specs.declared.script.Responder.{Responder}
-use Rattle.vd_top.specs.Played.{Says, Asked, Replied}
-use Rattle.vd_top.proofs.Answered.{replied}
+use Rattle.vd_top.specs.Played.{Says, Answered}
+use Rattle.vd_top.proofs.Plays.{flushed_same}
+use Rattle.vd_top.proofs.Answered.{answered_nothing}
 use Rattle.vd_top.proofs.script.Responder.answer.Goals as goal
-use Rattle.vd_top.proofs.script.Responder.answer.Goals.{in-Queue+in-Add-2, in-Queue+in-Walk-2, in-Control-2}
 
-pub returns-clause-ok : goal.returns-clause-ok
-returns-clause-ok g c = λ x h stands.
-    let is : served_reading c.args.line.now ≡ Some (Some c.in-Ok-Asks.step) = subst (λ l. Says l (served_reading c.args.line.now)) c.in-Ok-Asks.field-0-is c.in-Ok-Asks.ensures in
-    let asked : Asked x h c.in-Ok-Asks.step [] c.ask.new.reply.bytes.items c.ask.new.engine =
-    subst (λ old. Asked x h c.in-Ok-Asks.step old c.ask.new.reply.bytes.items c.ask.new.engine) c.in-Ok.ensures.none
-    (c.in-Ok-ask.ensures.ok x h (subst (λ e. StandsFor x h e) (sym c.clear.ensures.engine) stands)) in
-    let there = replied x h c.args.line.now c.ask.new.reply.bytes.items c.ask.new.engine c.in-Ok-Asks.step is asked in
-    elim c.match-step-3.branch [
-      | in-Queue+in-Add-2 w ↦ subst (λ (r : Responder). Replied x h c.args.line.now r.reply.bytes.items r.engine) (sym w.self-is) there
-      | in-Queue+in-Walk-2 w ↦ subst (λ (r : Responder). Replied x h c.args.line.now r.reply.bytes.items r.engine) (sym w.self-is) there
-      | in-Control-2 w ↦ subst (λ (r : Responder). Replied x h c.args.line.now r.reply.bytes.items r.engine) (sym w.self-is) there
-    ]
+pub returns-in-Ok-Bad-clause-answered : goal.returns-in-Ok-Bad-clause-answered
+returns-in-Ok-Bad-clause-answered g c =
+    let is : served_reading c.args.line.now ≡ None = subst (λ l. Says l (served_reading c.args.line.now)) c.in-Ok-Bad.field-0-is c.in-Ok-Bad.ensures in
+    (refl, is, flushed_same c.args.self.now.player.waiting (g.K.Sink.held c.args.sink.now), record { failures = refl; content = refl })
+
+pub returns-in-Ok-Nothing-clause-answered : goal.returns-in-Ok-Nothing-clause-answered
+returns-in-Ok-Nothing-clause-answered g c =
+    let is : served_reading c.args.line.now ≡ Some None = subst (λ l. Says l (served_reading c.args.line.now)) c.in-Ok-Nothing.field-0-is c.in-Ok-Nothing.ensures in
+    subst (λ read. Answered read c.args.lines c.args.self.now.player c.args.self.now.player (g.K.Sink.held c.args.sink.now) (g.K.Sink.held c.args.sink.now)
+    (g.I.Image.size c.args.disk.now) (g.I.Image.content c.args.disk.now) (g.I.Image.content c.args.disk.now)) (sym is)
+    (answered_nothing c.args.lines c.args.self.now.player (g.K.Sink.held c.args.sink.now) (g.I.Image.size c.args.disk.now) (g.I.Image.content c.args.disk.now))
