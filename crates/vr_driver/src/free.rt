@@ -5,7 +5,8 @@ ghost use Rattle.vr_driver.specs.Side.{free_from, least_free, with_owner, other_
 
 /// How many descriptors are free.
 pub fn count_free(owners: &[Option<u16>]) -> usize
-    ensures { result ≡ length (free_from 0 owners.now) }
+    ensures free { result ≡ length (free_from 0 owners.now) }
+    ensures few { result ≤ length owners.now }
 {
     let mut n = 0;
     for owner in owners {

@@ -7,7 +7,7 @@
 mod completion;
 mod free;
 mod ring;
-mod table;
+pub mod table;
 #[cfg(test)]
 mod tests;
 

@@ -114,6 +114,14 @@ impl DriverRing {
         self.place = place;
     }
 
+    /// How many descriptors are free.
+    pub fn count_free(&self) -> usize
+        ensures free { result ≡ length (free_descriptors self.now) }
+        ensures few { result ≤ self.now.place.size }
+    {
+        count_free(&self.owners)
+    }
+
     /// Puts parts into the least free descriptors, and answers the head of the chain.
     fn place_chain<M: Mem>(&mut self, mem: &mut M, parts: &[Part]) -> u16
         requires in_reach { TableInReach (M.told mem.old) (M.span mem.old) self.old.place }

@@ -1,4 +1,4 @@
-//! Writing descriptors into the table of a ring (virtio 1.2, section 2.7.5).
+//! Descriptors, and writing them into the table of a ring (virtio 1.2, section 2.7.5).
 ghost use Rattle.std.specs.Prelude.{◌≡◌, ◌<◌, length};
 ghost use Rattle.std.specs.List.{All};
 ghost use Rattle.vd_model.specs.RingTurns.{descriptor_bytes, flags_of};
@@ -13,7 +13,7 @@ use vr_split::Mem;
 use vr_split::reach::store_in_reach;
 
 /// The bytes of a descriptor.
-fn encode(d: &Descriptor) -> [u8; 16]
+pub fn encode(d: &Descriptor) -> [u8; 16]
     ensures { result ≡ descriptor_bytes d.now.at d.now.len d.now.flags d.now.next }
 {
     let mut bytes = [0; 16];
@@ -25,7 +25,7 @@ fn encode(d: &Descriptor) -> [u8; 16]
 }
 
 /// The flags of a descriptor of a part.
-fn flags(has_next: bool, writable: bool) -> u16
+pub fn flags(has_next: bool, writable: bool) -> u16
     ensures { result ≡ flags_of has_next writable }
 {
     let mut flags = 0;
