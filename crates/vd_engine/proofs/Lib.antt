@@ -1,6 +1,7 @@
 -- The lemmas of this crate.
 pub mod Names
 pub mod Sectors
+pub mod Flushing
 pub mod Images
 pub mod Beside
 pub mod Counts

@@ -1,5 +1,6 @@
 -- The words of this crate's contracts.
 pub mod Windows
+pub mod Flushes
 pub mod Image
 pub mod Machine
 pub mod Does

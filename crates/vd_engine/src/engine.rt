@@ -1,9 +1,10 @@
 //! The engine: all devices, by their names.
 
-ghost use Rattle.std.specs.Prelude.{◌≡◌, ◌<◌, ◌≤◌, ◌^◌, ◌+◌, ◌∷◌, [], IfOk, IsOk, OnOk, OnErr, true, false};
+ghost use Rattle.std.specs.Prelude.{List, ◌≡◌, ◌<◌, ◌≤◌, ◌^◌, ◌+◌, ◌∷◌, [], IfOk, IsOk, OnOk, OnErr, true, false};
 ghost use Rattle.vd_io.specs.Told.{Rose};
 ghost use Rattle.vd_model.specs.Setting.{Setting};
-ghost use Rattle.vd_model.specs.History.{History, deeds_of, outcome};
+ghost use Rattle.vd_model.specs.Deeds.{Deed};
+ghost use Rattle.vd_model.specs.History.{History, deeds_of, outcome, reply};
 ghost use Rattle.vd_output.specs.Served.{served};
 ghost use Rattle.vd_device.specs.Sizes.{AreFit, IsSized};
 ghost use Rattle.vd_engine.specs.Frugal.{is_frugal, is_execution};
@@ -50,8 +51,9 @@ pub struct Engine {
 }
 
 impl Engine {
-    ghost use Rattle.vd_engine.specs.Image.{IsImage};
-    ghost use Rattle.vd_engine.specs.Machine.{StandsFor, IsReached};
+    ghost use Rattle.vd_engine.specs.Flushes.{Counts, is_flush_step};
+    ghost use Rattle.vd_engine.specs.Image.{IsImage, HoldsOwn};
+    ghost use Rattle.vd_engine.specs.Machine.{StandsFor, StandsAt, IsReached};
     ghost use Rattle.vd_engine.specs.Does.{Serves, Goes};
 
     /// An engine without devices, each of which will have these sizes, for an image of so many sectors.
@@ -94,6 +96,11 @@ impl Engine {
         ensures size { I.size disk.new ≡ I.size disk.old }
         ensures later { I.faults disk.old ≤ I.faults disk.new }
         ensures cause { IfOk result (λ failed. failed ≡ true → Rose (I.faults disk.old) (I.faults disk.new)) }
+        ensures flushed { (x : Setting) (done : List Deed) → StandsAt x done self.old.asked self.old →
+            HoldsOwn x done → IsImage x done (I.size disk.old) (I.content disk.old) →
+            Counts result (λ failed. is_flush_step x done step.now (outcome x done step.now failed).answer)
+            (I.flushes disk.old) (I.flushes disk.new) }
+        ensures flushes { I.flushes disk.old ≤ I.flushes disk.new }
         ensures frugal { is_frugal step.now ≡ true → IsOk result }
     {
         match step {
@@ -134,6 +141,12 @@ impl Engine {
         ensures size { I.size disk.new ≡ I.size disk.old }
         ensures later { I.faults disk.old ≤ I.faults disk.new }
         ensures cause { IfOk result (λ failed. failed ≡ true → Rose (I.faults disk.old) (I.faults disk.new)) }
+
+        // A flush that is told as done was made, as far as the count of flushes can tell.
+        ensures flushed { (x : Setting) (h : History) → StandsFor x h self.old → IsImage x (deeds_of x h) (I.size disk.old) (I.content disk.old) →
+            Counts result (λ failed. is_flush_step x (deeds_of x h) step.now (reply x h step.now failed))
+            (I.flushes disk.old) (I.flushes disk.new) }
+        ensures flushes { I.flushes disk.old ≤ I.flushes disk.new }
 
         // These lines are never answered for want of memory.
         ensures frugal { is_frugal step.now ≡ true → IsOk result }

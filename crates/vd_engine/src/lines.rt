@@ -1,8 +1,9 @@
 //! Lines on a device and on its queues.
 
-ghost use Rattle.std.specs.Prelude.{◌≡◌, ◌<◌, ◌≤◌, ◌^◌, true, false, IsOk, IfOk, OnErr};
+ghost use Rattle.std.specs.Prelude.{List, ◌≡◌, ◌<◌, ◌≤◌, ◌^◌, true, false, IsOk, IfOk, OnErr};
 ghost use Rattle.vd_io.specs.Told.{Rose};
-ghost use Rattle.vd_model.specs.Deeds.{device_view};
+ghost use Rattle.vd_model.specs.Setting.{Setting};
+ghost use Rattle.vd_model.specs.Deeds.{Deed, device_view, acts_of_device};
 ghost use Rattle.vd_model.specs.History.{device_outcome, device_turn, device_queue_turn};
 ghost use Rattle.vd_output.specs.Served.{queue_served};
 ghost use Rattle.vd_device.specs.Frugal.{takes_no_memory};
@@ -19,7 +20,10 @@ use vd_num::Errno;
 
 impl Engine {
     ghost use Rattle.vd_instance.specs.Image.{is_execute};
-    ghost use Rattle.vd_engine.specs.Machine.{IsReached};
+    ghost use Rattle.vd_instance.specs.Flushes.{is_flush};
+    ghost use Rattle.vd_engine.specs.Flushes.{Counts};
+    ghost use Rattle.vd_engine.specs.Image.{IsImage, HoldsOwn};
+    ghost use Rattle.vd_engine.specs.Machine.{IsReached, StandsAt};
     ghost use Rattle.vd_engine.specs.Does.{MayDo, Serves};
 
     /// Answers a line on the device of this name.
@@ -70,6 +74,12 @@ impl Engine {
         ensures size { I.size disk.new ≡ I.size disk.old }
         ensures later { I.faults disk.old ≤ I.faults disk.new }
         ensures cause { IfOk result (λ failed. failed ≡ true → Rose (I.faults disk.old) (I.faults disk.new)) }
+        ensures flushed { (x : Setting) (done : List Deed) → StandsAt x done self.old.asked self.old →
+            HoldsOwn x done → IsImage x done (I.size disk.old) (I.content disk.old) →
+            Counts result (λ failed. is_flush x (acts_of_device name.now done) step.now
+            (device_queue_turn x name.now (device_view x name.now done) failed step.now).answer)
+            (I.flushes disk.old) (I.flushes disk.new) }
+        ensures flushes { I.flushes disk.old ≤ I.flushes disk.new }
     {
         match place_of(&self.devices, name) {
             None => {

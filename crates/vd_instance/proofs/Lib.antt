@@ -4,6 +4,7 @@ pub mod Counting
 pub mod Deeds
 pub mod Executing
 pub mod Executes
+pub mod Flushing
 pub mod Fresh
 pub mod Holding
 pub mod Kept

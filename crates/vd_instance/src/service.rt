@@ -1,6 +1,6 @@
 //! The block daemon's lines on a queue, which need a session.
 
-ghost use Rattle.std.specs.Prelude.{◌≡◌, ◌+◌, ◌-◌, ◌^◌, ◌≤◌, ℕ, List, false, true};
+ghost use Rattle.std.specs.Prelude.{◌≡◌, ◌&&◌, ◌+◌, ◌-◌, ◌^◌, ◌≤◌, ℕ, List, false, true};
 ghost use Rattle.std.specs.Option.{option_map};
 ghost use Rattle.vd_pool.specs.Memory.{PoolMemory};
 ghost use Rattle.vd_io.specs.Told.{Rose};
@@ -36,6 +36,7 @@ pub(crate) enum DaemonLine {
 
 impl Instance {
     ghost use Rattle.vd_instance.specs.Image.{IsWindow};
+    ghost use Rattle.vd_instance.specs.Flushes.{holds_flush, is_fine};
     ghost use Rattle.vd_instance.specs.Lines.{daemon_line_turn};
     ghost use Rattle.vd_instance.specs.Stands.{Stands, StandsForMore, After, IsHeld, IsReached, IsNamed, IsWithin};
 
@@ -130,6 +131,13 @@ impl Instance {
         ensures size { I.size disk.new ≡ I.size disk.old }
         ensures later { I.faults disk.old ≤ I.faults disk.new }
         ensures cause { result ≡ true → Rose (I.faults disk.old) (I.faults disk.new) }
+
+        // A flush ends with status 0 only where the count of flushes rose.
+        ensures flushed { (x : Setting) (made : Creation) (name : List ℕ) (seen : Seen) (m : PoolMemory) → Stands x made seen.acts self.old m
+            → IsNamed name self.old → IsWindow (I.content disk.old) window seen
+            → (holds_flush x seen.acts queue && is_fine (needs_session seen.acts (execute_turn x made (disk_of made name seen) result seen.acts queue)).answer) ≡ true
+            → Rose (I.flushes disk.old) (I.flushes disk.new) }
+        ensures flushes { I.flushes disk.old ≤ I.flushes disk.new }
         ensures device { self.new.device ≡ self.old.device }
         ensures named { (name : List ℕ) → IsNamed name self.old → IsNamed name self.new }
     {

@@ -35,6 +35,7 @@ pub struct QueueLine<'a> {
 impl Instance {
     ghost use Rattle.vd_daemon_lines.specs.Disk.{stored_over};
     ghost use Rattle.vd_instance.specs.Image.{IsWindow, Plays, is_execute};
+    ghost use Rattle.vd_instance.specs.Flushes.{is_flush};
     ghost use Rattle.vd_instance.specs.Lines.{frees_ring};
     ghost use Rattle.vd_instance.specs.Stands.{Stands, StandsForMore, After, IsHeld, IsReached, IsNamed, IsWithin, KeepsOthers};
 
@@ -160,6 +161,13 @@ impl Instance {
         ensures size { I.size disk.new ≡ I.size disk.old }
         ensures later { I.faults disk.old ≤ I.faults disk.new }
         ensures cause { IfOk result (λ failed. failed ≡ true → Rose (I.faults disk.old) (I.faults disk.new)) }
+
+        // A flush ends with status 0 only where the count of flushes rose.
+        ensures flushed { (x : Setting) (made : Creation) (name : List ℕ) (seen : Seen) → Stands x made seen.acts self.old pool.old
+            → IsNamed name self.old → IsWindow (I.content disk.old) line.entry.window seen
+            → IfOk result (λ failed. is_flush x seen.acts line.entry.step.now (queue_turn x made name seen failed line.entry.step.now).answer ≡ true
+            → Rose (I.flushes disk.old) (I.flushes disk.new)) }
+        ensures flushes { I.flushes disk.old ≤ I.flushes disk.new }
         ensures named { (name : List ℕ) → IsNamed name self.old → IsNamed name self.new }
         ensures rest { KeepsOthers self.old self.new pool.old pool.new }
         ensures within { (most : ℕ) → IsWithin most self.old → IsWithin (most + 1) self.new }

@@ -3,11 +3,10 @@ use Rattle.std.proofs.Common.{◌≡◌, ℕ, suc, ◌+◌, ◌<◌, ◌≤◌, 
 use Rattle.std.proofs.lemmas.List.{length-take-le}
 use Rattle.vd_model.specs.declared.step.Step.{Step}
 use Rattle.vd_model.specs.Setting.{Setting}
-use Rattle.vd_model.specs.History.{History, deeds_of}
+use Rattle.vd_model.specs.History.{History}
 use Rattle.vd_output.specs.Served.{served_reading}
 use Rattle.vd_output.specs.Out.{has_failed, later_of, reply_to, history_after, output_from}
-use Rattle.vd_engine.specs.Image.{IsImage}
-use Rattle.vd_top.specs.Pictures.{Holds}
+use Rattle.vd_top.specs.Pictures.{Shown, HoldsRun, Holds}
 use Rattle.vd_top.specs.Replies.{Replies, line_at}
 use Rattle.vd_top.specs.Played.{IsIn, Waits}
 
@@ -57,9 +56,9 @@ module _ (one other : List ℕ) (lines : List (List ℕ)) (a : Agree one other 1
     line = λ n below. in_agrees x (line_at waiting n) (length w.front + n) (w.line n below);
   }
 
-  pub holds_agrees : (x : Setting) (m size : ℕ) (content : Option (List ℕ)) → m ≤ length lines → Holds x one lines m size content → Holds x other lines m size content
-  holds_agrees x m size content within h =
-      subst (λ h. IsImage x (deeds_of x h) size content)
+  pub holds_agrees : (x : Setting) (m size : ℕ) (first now : Shown) → m ≤ length lines → Holds x one lines m size first now → Holds x other lines m size first now
+  holds_agrees x m size first now within h =
+      subst (λ h. HoldsRun x h size first now)
       (history_agrees one other (take m lines) 1 [] (fewer one other 1 (length lines) (length (take m lines)) (let size = length-take-le m lines within in omega (arith, size, within)) a)) h
 
 -- ---- the history and the replies, one line more

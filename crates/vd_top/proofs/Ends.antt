@@ -13,7 +13,7 @@ use Rattle.vd_top.specs.declared.exit.Exit.{Exit}
 use Rattle.vd_top.specs.declared.progress.Stop.{Stop}
 use Rattle.vd_top.specs.declared.progress.Stop.TheVariants.{End, SourceFailed, SinkFailed, Memory, BadLine, TooLong}
 use Rattle.vd_top.specs.Executes.{AreFailures, AreUpTo}
-use Rattle.vd_top.specs.Pictures.{ImageAt}
+use Rattle.vd_top.specs.Pictures.{Shown, ImageAt}
 use Rattle.vd_top.specs.Replies.{Replies, Cut}
 use Rattle.vd_top.specs.Written.{Appended, AppendedLines, StopsBy, WritesBy, stop_of_status, is_status}
 use Rattle.vd_top.specs.Played.{IsSetting, Played, PlayedTo, PlayedCut, line_of, most_of, status_of}
@@ -21,15 +21,15 @@ use Rattle.vd_top.proofs.Waits.{all_written, lines_of}
 use Rattle.vd_top.proofs.Halts.{cut_to}
 
 -- what a run says at its end
-pub record Ends (text : List ℕ) (stop : Stop) (line lines : ℕ) (failures : List ℕ) (engine : Engine) (left held later : Option (List ℕ)) (size : ℕ) (before after : Option (List ℕ)) : Type 0 where
+pub record Ends (text : List ℕ) (stop : Stop) (line lines : ℕ) (failures : List ℕ) (engine : Engine) (left held later : Option (List ℕ)) (size : ℕ) (before after : Shown) : Type 0 where
   pub stopped : StopsBy text stop line lines left
   pub numbers : AreFailures (good_lines text) failures
   pub early : AreUpTo (lines + 1) failures
   pub written : (x : Setting) → IsSetting x text engine size before → WritesBy x text failures stop lines held later
-  pub image : (x : Setting) → StandsFor x [] engine → IsImage x [] size before → ImageAt x text failures stop lines size after
+  pub image : (x : Setting) → StandsFor x [] engine → IsImage x [] size before.content → ImageAt x text failures stop lines size before after
 
 -- the replies that waited are written
-module _ (text : List ℕ) (lines : ℕ) (engine : Engine) (p : Player) (left held now next : Option (List ℕ)) (size : ℕ) (before after : Option (List ℕ)) (a : Appended now next p.waiting.bytes) where
+module _ (text : List ℕ) (lines : ℕ) (engine : Engine) (p : Player) (left held now next : Option (List ℕ)) (size : ℕ) (before after : Shown) (a : Appended now next p.waiting.bytes) where
   module _ (stop : Stop) (g : PlayedTo text stop lines engine p left held now size before after) where
     within : lines ≤ length (good_lines text)
     within = let total = ap length g.first in let both = length-append g.done g.rest in let count = g.count in omega (arith, count, total, both)
@@ -61,7 +61,7 @@ module _ (text : List ℕ) (lines : ℕ) (engine : Engine) (p : Player) (left he
   writes_by SinkFailed g x s = absurd g.stops
   writes_by Memory g x s = part Memory g x s
 
-  image_at : (stop : Stop) → PlayedTo text stop lines engine p left held now size before after → (x : Setting) → StandsFor x [] engine → IsImage x [] size before → ImageAt x text p.failures.items stop lines size after
+  image_at : (stop : Stop) → PlayedTo text stop lines engine p left held now size before after → (x : Setting) → StandsFor x [] engine → IsImage x [] size before.content → ImageAt x text p.failures.items stop lines size before after
   image_at End g x s i = record { run = lines; near = refl; there = within End g; holds = g.image x s i lines g.is_last.low (inr (omega arith)) }
   image_at BadLine g x s i = record { run = lines; near = refl; there = within BadLine g; holds = g.image x s i lines g.is_last.low (inr (omega arith)) }
   image_at TooLong g x s i = record { run = lines; near = refl; there = within TooLong g; holds = g.image x s i lines g.is_last.low (inr (omega arith)) }
@@ -100,12 +100,12 @@ module _ (text : List ℕ) (lines : ℕ) (engine : Engine) (p : Player) (left he
   ends_written TooLong other g = ends_to TooLong g
 
 -- the sink failed
-pub ends_sink : (text : List ℕ) (lines : ℕ) (engine : Engine) (failures : List ℕ) (left held later : Option (List ℕ)) (size : ℕ) (before after : Option (List ℕ)) → PlayedCut text failures lines engine held later size before after
+pub ends_sink : (text : List ℕ) (lines : ℕ) (engine : Engine) (failures : List ℕ) (left held later : Option (List ℕ)) (size : ℕ) (before after : Shown) → PlayedCut text failures lines engine held later size before after
     → Ends text SinkFailed 0 lines failures engine left held later size before after
 ends_sink text lines engine failures left held later size before after c =
     record { stopped = tt; numbers = c.numbers; early = c.early; written = c.cut; image = c.image }
 
-pub ends_cut : (text : List ℕ) (lines : ℕ) (engine : Engine) (p : Player) (left held now next : Option (List ℕ)) (size : ℕ) (before after : Option (List ℕ)) (written : ℕ) (stop : Stop) → stop ≢ SinkFailed
+pub ends_cut : (text : List ℕ) (lines : ℕ) (engine : Engine) (p : Player) (left held now next : Option (List ℕ)) (size : ℕ) (before after : Shown) (written : ℕ) (stop : Stop) → stop ≢ SinkFailed
     → Played text stop lines engine p left held now size before after → Cut p.waiting written now next → Ends text SinkFailed 0 written p.failures.items engine left held next size before after
 ends_cut text lines engine p left held now next size before after written stop other g c = ends_sink text written engine p.failures.items left held next size before after (by stop other g) where
   by : (stop : Stop) → stop ≢ SinkFailed → Played text stop lines engine p left held now size before after → PlayedCut text p.failures.items written engine held next size before after
@@ -117,7 +117,7 @@ ends_cut text lines engine p left held now next size before after written stop o
   by TooLong other g = cut_to text TooLong lines engine p left held now size before after g written next c
 
 -- an end that tells the stop and the lines
-pub ends_by : (text : List ℕ) (stop : Stop) (lines : ℕ) (e : Exit) (failures : List ℕ) (engine : Engine) (left held later : Option (List ℕ)) (size : ℕ) (before after : Option (List ℕ)) → stop_of_status e.status ≡ stop
+pub ends_by : (text : List ℕ) (stop : Stop) (lines : ℕ) (e : Exit) (failures : List ℕ) (engine : Engine) (left held later : Option (List ℕ)) (size : ℕ) (before after : Shown) → stop_of_status e.status ≡ stop
     → e.line ≡ line_of stop lines → e.lines_done ≡ lines → e.disk_failures ≡ failures → Ends text stop (line_of stop lines) lines failures engine left held later size before after
     → Ends text (stop_of_status e.status) e.line e.lines_done e.disk_failures engine left held later size before after
 ends_by text stop lines e failures engine left held later size before after is line done fails ends =

@@ -4,7 +4,6 @@ use Rattle.std.specs.List.{list_all, take_while}
 use Rattle.std.proofs.lemmas.List.{take-append-le}
 use Rattle.std.proofs.lemmas.Bool.Decides.{leb_tells}
 use Rattle.vd_model.specs.Setting.{Setting}
-use Rattle.vd_model.specs.History.{deeds_of}
 use Rattle.vd_output.specs.Served.{served_reading}
 use Rattle.vd_output.specs.Out.{is_good, good_lines, script_lines, history_after}
 use Rattle.vd_lines.specs.IsAt.{IsAt, Leads, IsRead, IsTaken, StopsLong}
@@ -18,7 +17,7 @@ use Rattle.vd_top.specs.declared.player.Player.{Player}
 use Rattle.vd_top.specs.declared.progress.Stop.{Stop}
 use Rattle.vd_top.specs.declared.progress.Stop.TheVariants.{End, SourceFailed, SinkFailed, Memory, BadLine, TooLong}
 use Rattle.vd_top.specs.Executes.{is_execute_line, executes, AreFailures, AreUpTo}
-use Rattle.vd_top.specs.Pictures.{Holds, HoldsFrom, ImageAt}
+use Rattle.vd_top.specs.Pictures.{Shown, HoldsRun, Holds, HoldsFrom, ImageAt}
 use Rattle.vd_top.specs.Replies.{Replies, Cut, Flushed, line_at}
 use Rattle.vd_top.specs.Written.{AppendedCut}
 use Rattle.vd_top.specs.Played.{Answered, Carried, Untold, Unchanged, StoppedBy, StopsAt, IsSetting, IsLast, Waits, Played, PlayedTo, PlayedCut, most_of}
@@ -37,18 +36,18 @@ most_low BadLine lines = omega arith
 most_low TooLong lines = omega arith
 
 -- of lines that are answered first, an image that holds their run
-holds_in : (x : Setting) (failures : List ℕ) (text : List ℕ) (done rest : List (List ℕ)) (m size : ℕ) (content : Option (List ℕ)) → good_lines text ≡ done ++ rest → m ≤ length done → Holds x failures done m size content
-    → Holds x failures (good_lines text) m size content
-holds_in x failures text done rest m size content first within h =
-    subst (λ l. IsImage x (deeds_of x (history_after failures 1 [] l)) size content) (sym (ap (take m) first ∙ take-append-le m done rest within)) h
+holds_in : (x : Setting) (failures : List ℕ) (text : List ℕ) (done rest : List (List ℕ)) (m size : ℕ) (first now : Shown) → good_lines text ≡ done ++ rest → m ≤ length done → Holds x failures done m size first now
+    → Holds x failures (good_lines text) m size first now
+holds_in x failures text done rest m size first now are within h =
+    subst (λ l. HoldsRun x (history_after failures 1 [] l) size first now) (sym (ap (take m) are ∙ take-append-le m done rest within)) h
 
 -- the sink fails at the replies that wait
-module _ (text : List ℕ) (stop : Stop) (lines : ℕ) (engine : Engine) (p : Player) (left held now : Option (List ℕ)) (size : ℕ) (before after : Option (List ℕ)) (g : PlayedTo text stop lines engine p left held now size before after)
+module _ (text : List ℕ) (stop : Stop) (lines : ℕ) (engine : Engine) (p : Player) (left held now : Option (List ℕ)) (size : ℕ) (before after : Shown) (g : PlayedTo text stop lines engine p left held now size before after)
     (written : ℕ) (next : Option (List ℕ)) (c : Cut p.waiting written now next) where
   last_low : g.last ≤ written + 1
   last_low = let line = g.is_last.line c.size c.less in subst (λ k. g.last ≤ k + 1) (sym c.line) line
 
-  image_cut : (x : Setting) → StandsFor x [] engine → IsImage x [] size before → ImageAt x text p.failures.items SinkFailed written size after
+  image_cut : (x : Setting) → StandsFor x [] engine → IsImage x [] size before.content → ImageAt x text p.failures.items SinkFailed written size before after
   image_cut x s i = elim (leb_tells g.last written) [
     | inl low ↦
         (let waits = g.waits x (record { stands = s; image = λ e. i }) in
@@ -73,10 +72,10 @@ module _ (text : List ℕ) (stop : Stop) (lines : ℕ) (engine : Engine) (p : Pl
     image = image_cut;
   }
 
-module _ (text : List ℕ) (lines : ℕ) (engine : Engine) (p : Player) (old now : Option (List ℕ)) (size : ℕ) (before content : Option (List ℕ)) (g : SoFar text lines engine p old now size before content)
+module _ (text : List ℕ) (lines : ℕ) (engine : Engine) (p : Player) (old now : Option (List ℕ)) (size : ℕ) (before content : Shown) (g : SoFar text lines engine p old now size before content)
     (rest : List (List ℕ)) (first : good_lines text ≡ g.done ++ rest) where
   -- it stops here, and nothing more was carried out
-  stop_with : (stop : Stop) (later : Option (List ℕ)) (new : Player) (next after : Option (List ℕ)) → StopsAt text g.done later stop → Flushed p.waiting new.waiting now next → Unchanged p new content after
+  stop_with : (stop : Stop) (later : Option (List ℕ)) (new : Player) (next : Option (List ℕ)) (after : Shown) → StopsAt text g.done later stop → Flushed p.waiting new.waiting now next → Unchanged p new content after
       → PlayedTo text stop lines engine new later old next size before after
   stop_with stop later new next after stops f u =
       let low = g.is_last.low in let count = g.count in
@@ -100,20 +99,20 @@ module _ (text : List ℕ) (lines : ℕ) (engine : Engine) (p : Player) (old now
             (waits_flushed x p.failures.items g.done p.waiting old now (g.run x s).waits new.waiting next f);
         image = λ x s i m high under.
             let within : m ≤ lines = elim under [ inl is ↦ omega (arith, is, low) | inr less ↦ less ] in
-            subst (λ l. Holds x l (good_lines text) m size after) (sym u.failures)
-            (holds_in x p.failures.items text g.done rest m size after first (omega (arith, within, count))
-            (subst (λ o. Holds x p.failures.items g.done m size o) (sym u.content) (g.image x s i m high within)));
+            subst (λ l. Holds x l (good_lines text) m size before after) (sym u.failures)
+            (holds_in x p.failures.items text g.done rest m size before after first (omega (arith, within, count))
+            (subst (λ o. Holds x p.failures.items g.done m size before o) (sym u.image) (g.image x s i m high within)));
       }
 
   stop_here : (stop : Stop) (later : Option (List ℕ)) → StopsAt text g.done later stop → PlayedTo text stop lines engine p later old now size before content
-  stop_here stop later stops = stop_with stop later p now content stops (flushed_same p.waiting now) (record { failures = refl; content = refl })
+  stop_here stop later stops = stop_with stop later p now content stops (flushed_same p.waiting now) (record { failures = refl; image = refl })
 
   -- the sink fails at the replies that wait
   pub stop_cut : (written : ℕ) (next : Option (List ℕ)) → Cut p.waiting written now next → PlayedCut text p.failures.items written engine old next size before content
   stop_cut written next c = cut_to text Memory lines engine p now old now size before content (stop_here Memory now tt) written next c
 
   -- an execute was carried out, and there was no memory for its reply
-  stop_untold : (line : List ℕ) (after : List (List ℕ)) (later : Option (List ℕ)) (new : Player) (next reached : Option (List ℕ)) → good_lines text ≡ g.done ++ line ∷ after
+  stop_untold : (line : List ℕ) (after : List (List ℕ)) (later : Option (List ℕ)) (new : Player) (next : Option (List ℕ)) (reached : Shown) → good_lines text ≡ g.done ++ line ∷ after
       → Flushed p.waiting new.waiting now next → Untold (served_reading line) lines p new size content reached → PlayedTo text Memory lines engine new later old next size before reached
   stop_untold line after later new next reached are f u =
       let low = g.is_last.low in let count = g.count in
@@ -140,18 +139,18 @@ module _ (text : List ℕ) (lines : ℕ) (engine : Engine) (p : Player) (old now
             (waits_agrees p.failures.items new.failures.items g.done agree x p.waiting old now (g.run x s).waits) new.waiting next f;
         image = λ x s i m high under.
             let is : lines + 1 ≡ m = elim under [ inl e ↦ sym e | inr less ↦ absurd (omega (arith, less, high)) ] in
-            subst (λ k. Holds x new.failures.items (good_lines text) k size reached) is
-            (holds_in x new.failures.items text (g.done ++ line ∷ []) after (lines + 1) size reached behind (omega (arith, count, one))
+            subst (λ k. Holds x new.failures.items (good_lines text) k size before reached) is
+            (holds_in x new.failures.items text (g.done ++ line ∷ []) after (lines + 1) size before reached behind (omega (arith, count, one))
             (holds_whole text lines engine p old now size before content g line u.failed new reached c x s i));
       }
 
-  cut_unchanged : (written : ℕ) (new : Player) (next after : Option (List ℕ)) → Unchanged p new content after → PlayedCut text p.failures.items written engine old next size before content
+  cut_unchanged : (written : ℕ) (new : Player) (next : Option (List ℕ)) (after : Shown) → Unchanged p new content after → PlayedCut text p.failures.items written engine old next size before content
       → PlayedCut text new.failures.items written engine old next size before after
   cut_unchanged written new next after u c =
-      subst (λ l. PlayedCut text l written engine old next size before after) (sym u.failures) (subst (λ o. PlayedCut text p.failures.items written engine old next size before o) (sym u.content) c)
+      subst (λ l. PlayedCut text l written engine old next size before after) (sym u.failures) (subst (λ o. PlayedCut text p.failures.items written engine old next size before o) (sym u.image) c)
 
   -- a line that isn't answered
-  pub stop_line : (line : List ℕ) (after : List (List ℕ)) (stop : Stop) (written : ℕ) (new : Player) (later next reached : Option (List ℕ)) → script_lines text ≡ g.done ++ line ∷ after → length line ≤ 65536
+  pub stop_line : (line : List ℕ) (after : List (List ℕ)) (stop : Stop) (written : ℕ) (new : Player) (later next : Option (List ℕ)) (reached : Shown) → script_lines text ≡ g.done ++ line ∷ after → length line ≤ 65536
       → StoppedBy stop written (served_reading line) lines p new now next size content reached → Played text stop written engine new later old next size before reached
   stop_line line after BadLine written new later next reached are short (is, none, f, u) =
       subst (λ n. PlayedTo text BadLine n engine new later old next size before reached) (sym is)
@@ -191,11 +190,11 @@ first_read text done left read good = all_good text done read.lines_are good ∙
 -- ---- the loop
 
 -- these lines were answered, and the reader stands behind them
-pub record Playing (text : List ℕ) (lines : ℕ) (engine : Engine) (p : Player) (reader : Ahead) (left old now : Option (List ℕ)) (size : ℕ) (before after : Option (List ℕ)) : Type 0 where
+pub record Playing (text : List ℕ) (lines : ℕ) (engine : Engine) (p : Player) (reader : Ahead) (left old now : Option (List ℕ)) (size : ℕ) (before after : Shown) : Type 0 where
   pub so : SoFar text lines engine p old now size before after
   pub at : IsAt text so.done reader left
 
-module _ (text : List ℕ) (lines : ℕ) (engine : Engine) (p : Player) (reader : Ahead) (left old now : Option (List ℕ)) (size : ℕ) (before content : Option (List ℕ)) (g : Playing text lines engine p reader left old now size before content) where
+module _ (text : List ℕ) (lines : ℕ) (engine : Engine) (p : Player) (reader : Ahead) (left old now : Option (List ℕ)) (size : ℕ) (before content : Shown) (g : Playing text lines engine p reader left old now size before content) where
   first : (rest : List (List ℕ)) × (good_lines text ≡ g.so.done ++ rest)
   first = first_of text g.so.done reader left g.at g.so.good
 
@@ -211,13 +210,13 @@ module _ (text : List ℕ) (lines : ℕ) (engine : Engine) (p : Player) (reader 
   pub halt_memory : (later : Option (List ℕ)) → Played text Memory lines engine p later old now size before content
   halt_memory later = stop_memory text lines engine p old now size before content g.so first.0 first.1 later
 
-  pub halt_line : (line : List ℕ) (after : List (List ℕ)) (stop : Stop) (written : ℕ) (new : Player) (later next reached : Option (List ℕ)) → script_lines text ≡ g.so.done ++ line ∷ after → length line ≤ 65536
+  pub halt_line : (line : List ℕ) (after : List (List ℕ)) (stop : Stop) (written : ℕ) (new : Player) (later next : Option (List ℕ)) (reached : Shown) → script_lines text ≡ g.so.done ++ line ∷ after → length line ≤ 65536
       → StoppedBy stop written (served_reading line) lines p new now next size content reached → Played text stop written engine new later old next size before reached
   halt_line line after stop written new later next reached are short stopped =
       stop_line text lines engine p old now size before content g.so first.0 first.1 line after stop written new later next reached are short stopped
 
   -- the last line is answered
-  pub halt_last : (line : List ℕ) (new : Player) (later next reached : Option (List ℕ)) → IsRead text (g.so.done ++ line ∷ []) later → length line ≤ 65536
+  pub halt_last : (line : List ℕ) (new : Player) (later next : Option (List ℕ)) (reached : Shown) → IsRead text (g.so.done ++ line ∷ []) later → length line ≤ 65536
       → Answered (served_reading line) lines p new now next size content reached → Played text End (lines + 1) engine new later old next size before reached
   halt_last line new later next reached read short a =
       let good = good_line line short a.carried.said in
@@ -226,7 +225,7 @@ module _ (text : List ℕ) (lines : ℕ) (engine : Engine) (p : Player) (reader 
       stop_end text (lines + 1) engine new old next size before reached more [] (first_read text (g.so.done ++ line ∷ []) later read more.good) later read
 
   -- a line is answered
-  pub go_on : (line : List ℕ) (new : Player) (ahead : Ahead) (later next reached : Option (List ℕ)) → IsAt text (g.so.done ++ line ∷ []) ahead later × Leads text g.so.done line × (length line ≤ 65536)
+  pub go_on : (line : List ℕ) (new : Player) (ahead : Ahead) (later next : Option (List ℕ)) (reached : Shown) → IsAt text (g.so.done ++ line ∷ []) ahead later × Leads text g.so.done line × (length line ≤ 65536)
       → Answered (served_reading line) lines p new now next size content reached → Playing text (lines + 1) engine new ahead later old next size before reached
   go_on line new ahead later next reached (at, leads, short) a =
       let good = good_line line short a.carried.said in

@@ -16,7 +16,8 @@ use Rattle.vd_engine.specs.Image.{IsImage}
 use Rattle.vd_engine.specs.Machine.{StandsFor}
 use Rattle.vd_top.specs.declared.player.Player.{Player}
 use Rattle.vd_top.specs.Executes.{asks_execution, is_execute_line, executes, AreFailures, AreUpTo, failed_more}
-use Rattle.vd_top.specs.Pictures.{Holds}
+use Rattle.vd_engine.specs.Flushes.{flushes}
+use Rattle.vd_top.specs.Pictures.{Shown, HoldsRun, Holds}
 use Rattle.vd_top.specs.Replies.{Replies, Flushed, line_at}
 use Rattle.vd_top.specs.Played.{Answered, Carried, IsSetting, IsLast, Waits}
 use Rattle.vd_top.proofs.Failures.{none_above, failed_here, failed_else, up_to_more, executes_by, failures_none, failures_in, failures_more}
@@ -85,14 +86,13 @@ quiet_line text done line after are good short none = by (is_execute_line line) 
 pub flushed_same : (waiting : Replies) (held : Option (List ℕ)) → Flushed waiting waiting held held
 flushed_same waiting held = record { front = []; written = appended_none held; rest = refl; line = λ n below. ap (line_at waiting) (let e : n ≡ 0 + n = omega arith in e) }
 
-pub deeds_none : (x : Setting) (size : ℕ) (content : Option (List ℕ)) → IsImage x [] size content → IsImage x (deeds_of x []) size content
-unfolding deeds_of
-deeds_none x size content i = i
+pub holds_first : (x : Setting) (size : ℕ) (first : Shown) → IsImage x [] size first.content → HoldsRun x [] size first first
+unfolding deeds_of flushes
+holds_first x size first i = record { image = i; flushed = omega arith }
 
-pub holds_none : (x : Setting) (failures : List ℕ) (m size : ℕ) (content : Option (List ℕ)) → m ≡ 0 → IsImage x [] size content → Holds x failures [] m size content
-holds_none x failures m size content none i =
-    subst (λ k. Holds x failures [] k size content) (sym none)
-    (subst (λ h. IsImage x (deeds_of x h) size content) (sym (history_none failures)) (deeds_none x size content i))
+pub holds_none : (x : Setting) (failures : List ℕ) (m size : ℕ) (first : Shown) → m ≡ 0 → IsImage x [] size first.content → Holds x failures [] m size first first
+holds_none x failures m size first none i =
+    subst (λ k. Holds x failures [] k size first first) (sym none) (subst (λ h. HoldsRun x h size first first) (sym (history_none failures)) (holds_first x size first i))
 
 -- a reply that waits after a flush waited before it, to the same line
 pub line_flushed : (old new : Replies) (held later : Option (List ℕ)) (last : ℕ) → Flushed old new held later → ((n : ℕ) → n < length old.bytes → last ≤ line_at old n + 1) → (n : ℕ) → n < length new.bytes → last ≤ line_at new n + 1
@@ -108,7 +108,7 @@ pub record Runs (x : Setting) (p : Player) (done : List (List ℕ)) (old now : O
   pub waits : Waits x p.failures.items done p.waiting old now
 
 -- these lines were answered
-pub record SoFar (text : List ℕ) (lines : ℕ) (engine : Engine) (p : Player) (old now : Option (List ℕ)) (size : ℕ) (before after : Option (List ℕ)) : Type 0 where
+pub record SoFar (text : List ℕ) (lines : ℕ) (engine : Engine) (p : Player) (old now : Option (List ℕ)) (size : ℕ) (before after : Shown) : Type 0 where
   pub done : List (List ℕ)
   pub good : list_all is_good done ≡ true
   pub count : lines ≡ length done
@@ -116,9 +116,9 @@ pub record SoFar (text : List ℕ) (lines : ℕ) (engine : Engine) (p : Player) 
   pub last : ℕ
   pub is_last : IsLast p.failures.items p.waiting last lines
   pub run : (x : Setting) → IsSetting x text engine size before → Runs x p done old now
-  pub image : (x : Setting) → StandsFor x [] engine → IsImage x [] size before → (m : ℕ) → last ≤ m → m ≤ lines → Holds x p.failures.items done m size after
+  pub image : (x : Setting) → StandsFor x [] engine → IsImage x [] size before.content → (m : ℕ) → last ≤ m → m ≤ lines → Holds x p.failures.items done m size before after
 
-abbrev pub so_first : (text : List ℕ) (p : Player) (held : Option (List ℕ)) (size : ℕ) (before : Option (List ℕ)) → p.waiting.bytes ≡ [] → p.failures.items ≡ [] → SoFar text 0 p.engine p held held size before before
+abbrev pub so_first : (text : List ℕ) (p : Player) (held : Option (List ℕ)) (size : ℕ) (before : Shown) → p.waiting.bytes ≡ [] → p.failures.items ≡ [] → SoFar text 0 p.engine p held held size before before
 so_first text p held size before none never = record {
   done = [];
   good = refl;
@@ -135,20 +135,20 @@ executes_if true failed quiet e = refl
 executes_if false failed quiet e = absurd (true≢false (sym e ∙ quiet refl))
 
 -- the place and what is known of a line more
-pub record Next (text : List ℕ) (lines : ℕ) (engine : Engine) (done : List (List ℕ)) (p : Player) (size : ℕ) (before after : Option (List ℕ)) : Type 0 where
+pub record Next (text : List ℕ) (lines : ℕ) (engine : Engine) (done : List (List ℕ)) (p : Player) (size : ℕ) (before after : Shown) : Type 0 where
   pub last : ℕ
   pub is_last : IsLast p.failures.items p.waiting last lines
-  pub image : (x : Setting) → StandsFor x [] engine → IsImage x [] size before → (m : ℕ) → last ≤ m → m ≤ lines → Holds x p.failures.items done m size after
+  pub image : (x : Setting) → StandsFor x [] engine → IsImage x [] size before.content → (m : ℕ) → last ≤ m → m ≤ lines → Holds x p.failures.items done m size before after
 
-module _ (text : List ℕ) (lines : ℕ) (engine : Engine) (p : Player) (old now : Option (List ℕ)) (size : ℕ) (before content : Option (List ℕ)) (g : SoFar text lines engine p old now size before content) where
+module _ (text : List ℕ) (lines : ℕ) (engine : Engine) (p : Player) (old now : Option (List ℕ)) (size : ℕ) (before content : Shown) (g : SoFar text lines engine p old now size before content) where
   -- the image at the last of the lines
-  holds_now : (x : Setting) → StandsFor x [] engine → IsImage x [] size before → IsImage x (deeds_of x (history_after p.failures.items 1 [] g.done)) size content
+  holds_now : (x : Setting) → StandsFor x [] engine → IsImage x [] size before.content → HoldsRun x (history_after p.failures.items 1 [] g.done) size before content
   holds_now x s i =
       let low = g.is_last.low in
-      subst (λ l. IsImage x (deeds_of x (history_after p.failures.items 1 [] l)) size content) (ap (λ k. take k g.done) g.count ∙ take-length g.done) (g.image x s i lines low (omega arith))
+      subst (λ l. HoldsRun x (history_after p.failures.items 1 [] l) size before content) (ap (λ k. take k g.done) g.count ∙ take-length g.done) (g.image x s i lines low (omega arith))
 
   -- ---- a line that was carried out
-  module _ (line : List ℕ) (failed : Bool) (new : Player) (after : Option (List ℕ)) (c : Carried (served_reading line) lines failed p new size content after) where
+  module _ (line : List ℕ) (failed : Bool) (new : Player) (after : Shown) (c : Carried (served_reading line) lines failed p new size content after) where
     pub here : has_failed new.failures.items (1 + length g.done) ≡ failed
     here =
         let low = g.is_last.low in let count = g.count in
@@ -175,27 +175,27 @@ module _ (text : List ℕ) (lines : ℕ) (engine : Engine) (p : Player) (old now
         ∙ ap (later_of failed (served_reading line)) (sym (history_agrees p.failures.items new.failures.items g.done 1 [] same))
 
     -- the image with what it stored
-    whole : (x : Setting) → StandsFor x [] engine → IsImage x [] size before → IsImage x (deeds_of x (history_after new.failures.items 1 [] (g.done ++ line ∷ []))) size after
+    whole : (x : Setting) → StandsFor x [] engine → IsImage x [] size before.content → HoldsRun x (history_after new.failures.items 1 [] (g.done ++ line ∷ [])) size before after
     whole x s i =
-        subst (λ h. IsImage x (deeds_of x h) size after) (sym history_now)
-        (c.image x (history_after p.failures.items 1 [] g.done) (g.run x (record { stands = s; image = λ e. i })).stands (holds_now x s i))
+        subst (λ h. HoldsRun x h size before after) (sym history_now)
+        (c.image x (history_after p.failures.items 1 [] g.done) before (g.run x (record { stands = s; image = λ e. i })).stands (holds_now x s i))
 
     take_all : take (lines + 1) (g.done ++ line ∷ []) ≡ g.done ++ line ∷ []
     take_all = let size = length-append g.done (line ∷ []) in let count = g.count in ap (λ k. take k (g.done ++ line ∷ [])) (let e : lines + 1 ≡ length (g.done ++ line ∷ []) = omega (arith, size, count) in e) ∙ take-length (g.done ++ line ∷ [])
 
-    pub holds_whole : (x : Setting) → StandsFor x [] engine → IsImage x [] size before → Holds x new.failures.items (g.done ++ line ∷ []) (lines + 1) size after
-    holds_whole x s i = subst (λ l. IsImage x (deeds_of x (history_after new.failures.items 1 [] l)) size after) (sym take_all) (whole x s i)
+    pub holds_whole : (x : Setting) → StandsFor x [] engine → IsImage x [] size before.content → Holds x new.failures.items (g.done ++ line ∷ []) (lines + 1) size before after
+    holds_whole x s i = subst (λ l. HoldsRun x (history_after new.failures.items 1 [] l) size before after) (sym take_all) (whole x s i)
 
     -- the image as it was at a line before
-    holds_before : (x : Setting) → StandsFor x [] engine → IsImage x [] size before → after ≡ content → (m : ℕ) → g.last ≤ m → m ≤ lines → Holds x new.failures.items (g.done ++ line ∷ []) m size after
+    holds_before : (x : Setting) → StandsFor x [] engine → IsImage x [] size before.content → after ≡ content → (m : ℕ) → g.last ≤ m → m ≤ lines → Holds x new.failures.items (g.done ++ line ∷ []) m size before after
     holds_before x s i still m low high =
         let count = g.count in
-        subst (λ l. IsImage x (deeds_of x (history_after new.failures.items 1 [] l)) size after) (sym (take-append-le m g.done (line ∷ []) (omega (arith, count, high))))
-        (holds_agrees p.failures.items new.failures.items g.done same x m size after (omega (arith, count, high))
-        (subst (λ o. Holds x p.failures.items g.done m size o) (sym still) (g.image x s i m low high)))
+        subst (λ l. HoldsRun x (history_after new.failures.items 1 [] l) size before after) (sym (take-append-le m g.done (line ∷ []) (omega (arith, count, high))))
+        (holds_agrees p.failures.items new.failures.items g.done same x m size before after (omega (arith, count, high))
+        (subst (λ o. Holds x p.failures.items g.done m size before o) (sym still) (g.image x s i m low high)))
 
   -- ---- a line that was answered
-  module _ (line : List ℕ) (new : Player) (next : Option (List ℕ)) (after : Option (List ℕ)) (a : Answered (served_reading line) lines p new now next size content after) where
+  module _ (line : List ℕ) (new : Player) (next : Option (List ℕ)) (after : Shown) (a : Answered (served_reading line) lines p new now next size content after) where
     pub next_line : (b : Bool) → is_execute_line line ≡ b → Next text (lines + 1) engine (g.done ++ line ∷ []) new size before after
     next_line true e = record {
       last = lines + 1;
@@ -207,7 +207,7 @@ module _ (text : List ℕ) (lines : ℕ) (engine : Engine) (p : Player) (old now
             subst (λ k. lines + 1 ≤ k + 1) (sym (a.waits.added n (omega (arith, none)) below)) (omega arith);
       };
       image = λ x s i m low high.
-          subst (λ k. Holds x new.failures.items (g.done ++ line ∷ []) k size after) (let is : lines + 1 ≡ m = omega (arith, low, high) in is) (holds_whole line a.failed new after a.carried x s i);
+          subst (λ k. Holds x new.failures.items (g.done ++ line ∷ []) k size before after) (let is : lines + 1 ≡ m = omega (arith, low, high) in is) (holds_whole line a.failed new after a.carried x s i);
     }
     next_line false e =
         let quiet = a.carried.quiet e in
@@ -226,7 +226,7 @@ module _ (text : List ℕ) (lines : ℕ) (engine : Engine) (p : Player) (old now
             | inl under ↦ holds_before line a.failed new after a.carried x s i quiet.1 m low under.1
             | inr over ↦
                 (let past = over.1 in
-                subst (λ k. Holds x new.failures.items (g.done ++ line ∷ []) k size after) (let is : lines + 1 ≡ m = omega (arith, past, high) in is) (holds_whole line a.failed new after a.carried x s i))
+                subst (λ k. Holds x new.failures.items (g.done ++ line ∷ []) k size before after) (let is : lines + 1 ≡ m = omega (arith, past, high) in is) (holds_whole line a.failed new after a.carried x s i))
           ];
         }
 
@@ -234,7 +234,7 @@ module _ (text : List ℕ) (lines : ℕ) (engine : Engine) (p : Player) (old now
       pub run_more : (x : Setting) → IsSetting x text engine size before → Runs x new (g.done ++ line ∷ []) old next
       run_more x s =
           let r = g.run x s in
-          let told = a.run x (history_after p.failures.items 1 [] g.done) r.stands (λ e. holds_now x s.stands (s.image (executes_by text g.done line rest are e))) in
+          let told = a.run x (history_after p.failures.items 1 [] g.done) r.stands (λ e. (holds_now x s.stands (s.image (executes_by text g.done line rest are e))).image) in
           let agree = same line a.failed new after a.carried in
           record {
             stands = subst (λ h. StandsFor x h new.engine) (sym (history_now line a.failed new after a.carried)) told.stands;

@@ -16,7 +16,7 @@ use Rattle.vd_engine.specs.declared.engine.Engine.{Engine}
 use Rattle.vd_engine.specs.Machine.{StandsFor}
 use Rattle.vd_engine.specs.Image.{IsImage}
 use Rattle.vd_top.specs.Executes.{asks_execution, executes, AreFailures, AreUpTo, failed_more}
-use Rattle.vd_top.specs.Pictures.{HoldsFrom, ImageAt}
+use Rattle.vd_top.specs.Pictures.{Shown, HoldsRun, HoldsFrom, ImageAt}
 use Rattle.vd_top.specs.Replies.{Replies, IsReplyAdded, Cut, Flushed, line_at}
 use Rattle.vd_top.specs.Written.{Appended, AppendedCut}
 
@@ -41,14 +41,14 @@ pub record Replied (x : Setting) (h : History) (read : Option (Option Step)) (fa
 
 -- the line after so many others was carried out: the image failed at it or not, and where it held what was stored before, it holds what that
 -- line stored too; no line but an execute touches it
-pub record Carried (read : Option (Option Step)) (lines : ℕ) (failed : Bool) (old new : Player) (size : ℕ) (before after : Option (List ℕ)) : Type 0 where
+pub record Carried (read : Option (Option Step)) (lines : ℕ) (failed : Bool) (old new : Player) (size : ℕ) (before after : Shown) : Type 0 where
   pub said : is_some read ≡ true
   pub failures : new.failures.items ≡ failed_more failed (lines + 1) old.failures.items
   pub quiet : asks_execution read ≡ false → (failed ≡ false) × (after ≡ before)
-  pub image : (x : Setting) (h : History) → StandsFor x h old.engine → IsImage x (deeds_of x h) size before → IsImage x (deeds_of x (later_of failed read h)) size after
+  pub image : (x : Setting) (h : History) (first : Shown) → StandsFor x h old.engine → HoldsRun x h size first before → HoldsRun x (later_of failed read h) size first after
 
 -- and its reply waits; before an execute those that waited are written
-pub record Answered (read : Option (Option Step)) (lines : ℕ) (old new : Player) (held later : Option (List ℕ)) (size : ℕ) (before after : Option (List ℕ)) : Type 0 where
+pub record Answered (read : Option (Option Step)) (lines : ℕ) (old new : Player) (held later : Option (List ℕ)) (size : ℕ) (before after : Shown) : Type 0 where
   pub failed : Bool
   pub carried : Carried read lines failed old new size before after
   pub kept : Replies
@@ -56,19 +56,19 @@ pub record Answered (read : Option (Option Step)) (lines : ℕ) (old new : Playe
   pub alone : asks_execution read ≡ true → kept.bytes ≡ []
   pub reply : List ℕ
   pub waits : IsReplyAdded reply lines kept new.waiting
-  pub run : (x : Setting) (h : History) → StandsFor x h old.engine → (asks_execution read ≡ true → IsImage x (deeds_of x h) size before) → Replied x h read failed reply new.engine
+  pub run : (x : Setting) (h : History) → StandsFor x h old.engine → (asks_execution read ≡ true → IsImage x (deeds_of x h) size before.content) → Replied x h read failed reply new.engine
 
 -- an execute was carried out, and there was no memory for its reply; no other waits
-pub record Untold (read : Option (Option Step)) (lines : ℕ) (old new : Player) (size : ℕ) (before after : Option (List ℕ)) : Type 0 where
+pub record Untold (read : Option (Option Step)) (lines : ℕ) (old new : Player) (size : ℕ) (before after : Shown) : Type 0 where
   pub is : asks_execution read ≡ true
   pub failed : Bool
   pub carried : Carried read lines failed old new size before after
   pub none : new.waiting.bytes ≡ []
 
 -- nothing was carried out
-pub record Unchanged (old new : Player) (before after : Option (List ℕ)) : Type 0 where
+pub record Unchanged (old new : Player) (before after : Shown) : Type 0 where
   pub failures : new.failures.items ≡ old.failures.items
-  pub content : after ≡ before
+  pub image : after ≡ before
 
 -- why the replies that wait weren't written before an execute, or there was no room for its number
 abbrev pub IsHindered : Stop → ℕ → ℕ → Replies → Replies → Option (List ℕ) → Option (List ℕ) → Type 0
@@ -80,7 +80,7 @@ IsHindered BadLine done lines old new held later = ⊥
 IsHindered TooLong done lines old new held later = ⊥
 
 -- why a line isn't answered
-abbrev pub StoppedBy : Stop → ℕ → Option (Option Step) → ℕ → Player → Player → Option (List ℕ) → Option (List ℕ) → ℕ → Option (List ℕ) → Option (List ℕ) → Type 0
+abbrev pub StoppedBy : Stop → ℕ → Option (Option Step) → ℕ → Player → Player → Option (List ℕ) → Option (List ℕ) → ℕ → Shown → Shown → Type 0
 StoppedBy BadLine done read lines old new held later size before after =
     (done ≡ lines) × (read ≡ None) × Flushed old.waiting new.waiting held later × Unchanged old new before after
 StoppedBy Memory done read lines old new held later size before after =
@@ -106,9 +106,9 @@ pub record Waits (x : Setting) (failures : List ℕ) (done : List (List ℕ)) (w
   pub line : (n : ℕ) → n < length waiting.bytes → IsIn x failures done (line_at waiting n) (length front + n)
 
 -- a setting of which the run is told: an execute is answered by what the image held at first
-pub record IsSetting (x : Setting) (text : List ℕ) (engine : Engine) (size : ℕ) (content : Option (List ℕ)) : Type 0 where
+pub record IsSetting (x : Setting) (text : List ℕ) (engine : Engine) (size : ℕ) (first : Shown) : Type 0 where
   pub stands : StandsFor x [] engine
-  pub image : executes text ≡ true → IsImage x [] size content
+  pub image : executes text ≡ true → IsImage x [] size first.content
 
 -- of so many lines, the executes at which the image failed, the last one that was carried out, and no reply that waits to a line before that
 pub record IsLast (failures : List ℕ) (waiting : Replies) (last most : ℕ) : Type 0 where
@@ -131,7 +131,7 @@ most_of Memory lines = lines + 1
 most_of _ lines = lines
 
 -- the lines that were answered, whose replies are written or wait, and where the run stopped behind them
-pub record PlayedTo (text : List ℕ) (stop : Stop) (lines : ℕ) (engine : Engine) (new : Player) (left held later : Option (List ℕ)) (size : ℕ) (before after : Option (List ℕ)) : Type 0 where
+pub record PlayedTo (text : List ℕ) (stop : Stop) (lines : ℕ) (engine : Engine) (new : Player) (left held later : Option (List ℕ)) (size : ℕ) (before after : Shown) : Type 0 where
   pub done : List (List ℕ)
   pub count : lines ≡ length done
   pub stops : StopsAt text done left stop
@@ -143,16 +143,16 @@ pub record PlayedTo (text : List ℕ) (stop : Stop) (lines : ℕ) (engine : Engi
   pub there : last ≤ length (good_lines text)
   pub is_last : IsLast new.failures.items new.waiting last (most_of stop lines)
   pub waits : (x : Setting) → IsSetting x text engine size before → Waits x new.failures.items done new.waiting held later
-  pub image : (x : Setting) → StandsFor x [] engine → IsImage x [] size before → HoldsFrom x new.failures.items (good_lines text) last lines size after
+  pub image : (x : Setting) → StandsFor x [] engine → IsImage x [] size before.content → HoldsFrom x new.failures.items (good_lines text) last lines size before after
 
 -- to so many lines the replies are written, the next one not whole
-pub record PlayedCut (text failures : List ℕ) (lines : ℕ) (engine : Engine) (held later : Option (List ℕ)) (size : ℕ) (before after : Option (List ℕ)) : Type 0 where
+pub record PlayedCut (text failures : List ℕ) (lines : ℕ) (engine : Engine) (held later : Option (List ℕ)) (size : ℕ) (before after : Shown) : Type 0 where
   pub numbers : AreFailures (good_lines text) failures
   pub early : AreUpTo (lines + 1) failures
   pub cut : (x : Setting) → IsSetting x text engine size before → AppendedCut x text failures lines held later
-  pub image : (x : Setting) → StandsFor x [] engine → IsImage x [] size before → ImageAt x text failures SinkFailed lines size after
+  pub image : (x : Setting) → StandsFor x [] engine → IsImage x [] size before.content → ImageAt x text failures SinkFailed lines size before after
 
-abbrev pub Played : List ℕ → Stop → ℕ → Engine → Player → Option (List ℕ) → Option (List ℕ) → Option (List ℕ) → ℕ → Option (List ℕ) → Option (List ℕ) → Type 0
+abbrev pub Played : List ℕ → Stop → ℕ → Engine → Player → Option (List ℕ) → Option (List ℕ) → Option (List ℕ) → ℕ → Shown → Shown → Type 0
 Played text SinkFailed lines engine new left held later size before after = PlayedCut text new.failures.items lines engine held later size before after
 Played text stop lines engine new left held later size before after = PlayedTo text stop lines engine new left held later size before after
 

@@ -7,7 +7,7 @@ ghost use Rattle.vd_output.specs.Out.{good_lines};
 ghost use Rattle.vd_device.specs.Sizes.{AreFit, IsSized};
 ghost use Rattle.vd_engine.specs.Image.{IsImage};
 ghost use Rattle.vd_top.specs.Executes.{AreFailures, AreUpTo, RoseBy, executes};
-ghost use Rattle.vd_top.specs.Pictures.{ImageAt};
+ghost use Rattle.vd_top.specs.Pictures.{ImageAt, shown};
 ghost use Rattle.vd_top.specs.Written.{StopsBy, WritesBy, stop_of_status, is_status, is_line_status};
 ghost use Rattle.vd_top.specs.Played.{status_of, line_of, is_own};
 
@@ -86,7 +86,8 @@ pub fn run<S: Source, K: Sink, I: Image>(
         (executes text ≡ true → IsImage x [] (I.size disk.old) (I.content disk.old)) →
         WritesBy x text result.disk_failures (stop_of_status result.status) result.lines_done (K.held sink.old) (K.held sink.new) }
     ensures image { (x : Setting) (text : List ℕ) → IsSized x sizes → S.left source.old ≡ Some text → IsImage x [] (I.size disk.old) (I.content disk.old) →
-        ImageAt x text result.disk_failures (stop_of_status result.status) result.lines_done (I.size disk.new) (I.content disk.new) }
+        ImageAt x text result.disk_failures (stop_of_status result.status) result.lines_done
+        (I.size disk.new) (shown I.content I.flushes disk.old) (shown I.content I.flushes disk.new) }
     ensures failures { (text : List ℕ) → S.left source.old ≡ Some text →
         AreFailures (good_lines text) result.disk_failures × AreUpTo (result.lines_done + 1) result.disk_failures }
     ensures untouched { (text : List ℕ) → S.left source.old ≡ Some text → executes text ≡ false →

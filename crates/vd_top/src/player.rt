@@ -9,6 +9,7 @@ ghost use Rattle.vd_device.specs.Sizes.{AreFit, IsSized};
 ghost use Rattle.vd_engine.specs.Machine.{StandsFor, IsReached};
 ghost use Rattle.vd_engine.specs.Frugal.{is_execution};
 ghost use Rattle.vd_top.specs.Executes.{RoseBy, failed_more};
+ghost use Rattle.vd_top.specs.Pictures.{shown};
 ghost use Rattle.vd_top.specs.Replies.{IsReplyAdded, Flushed};
 ghost use Rattle.vd_top.specs.Played.{Answered, IsHindered, StoppedBy};
 
@@ -170,9 +171,9 @@ impl Player {
         requires served { served step.now ≡ true }
         requires disk { I.size disk.old ≡ self.old.engine.sectors }
         ensures answered { MatchResult result
-            (λ _. Answered (Some (Some step.now)) lines self.old self.new (K.held sink.old) (K.held sink.new) (I.size disk.old) (I.content disk.old) (I.content disk.new))
+            (λ _. Answered (Some (Some step.now)) lines self.old self.new (K.held sink.old) (K.held sink.new) (I.size disk.old) (shown I.content I.flushes disk.old) (shown I.content I.flushes disk.new))
             (λ p. StoppedBy p.stop p.lines (Some (Some step.now)) lines self.old self.new (K.held sink.old) (K.held sink.new)
-            (I.size disk.old) (I.content disk.old) (I.content disk.new)) }
+            (I.size disk.old) (shown I.content I.flushes disk.old) (shown I.content I.flushes disk.new)) }
         ensures reached { IsReached self.new.engine }
         ensures asked { self.new.engine.asked ≤ self.old.engine.asked + 1 }
         ensures sectors { self.new.engine.sectors ≡ self.old.engine.sectors }

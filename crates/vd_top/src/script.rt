@@ -7,6 +7,7 @@ ghost use Rattle.vd_output.specs.Served.{served_reading};
 ghost use Rattle.vd_device.specs.Sizes.{AreFit, IsSized};
 ghost use Rattle.vd_engine.specs.Machine.{StandsFor, IsReached};
 ghost use Rattle.vd_top.specs.Executes.{RoseBy, executes, is_execute_line};
+ghost use Rattle.vd_top.specs.Pictures.{shown};
 ghost use Rattle.vd_top.specs.Replies.{Cut, Flushed};
 ghost use Rattle.vd_top.specs.Played.{Answered, StoppedBy, Played, is_own};
 
@@ -75,9 +76,9 @@ impl Responder {
         requires disk { I.size disk.old ≡ self.old.player.engine.sectors }
         ensures answered { MatchResult result
             (λ _. Answered (served_reading line.now) lines self.old.player self.new.player (K.held sink.old) (K.held sink.new)
-            (I.size disk.old) (I.content disk.old) (I.content disk.new))
+            (I.size disk.old) (shown I.content I.flushes disk.old) (shown I.content I.flushes disk.new))
             (λ p. StoppedBy p.stop p.lines (served_reading line.now) lines self.old.player self.new.player (K.held sink.old) (K.held sink.new)
-            (I.size disk.old) (I.content disk.old) (I.content disk.new)) }
+            (I.size disk.old) (shown I.content I.flushes disk.old) (shown I.content I.flushes disk.new)) }
         ensures reached { IsReached self.new.player.engine }
         ensures asked { self.new.player.engine.asked ≤ self.old.player.engine.asked + 1 }
         ensures sectors { self.new.player.engine.sectors ≡ self.old.player.engine.sectors }
@@ -133,7 +134,7 @@ pub fn play<S: Source, K: Sink, I: Image>(
     requires disk { I.size disk.old ≡ responder.old.player.engine.sectors }
     ensures played { (text : List ℕ) → S.left source.old ≡ Some text →
         Played text result.stop result.lines responder.old.player.engine responder.new.player (S.left source.new) (K.held sink.old) (K.held sink.new)
-        (I.size disk.old) (I.content disk.old) (I.content disk.new) }
+        (I.size disk.old) (shown I.content I.flushes disk.old) (shown I.content I.flushes disk.new) }
     ensures untouched { (text : List ℕ) → S.left source.old ≡ Some text → executes text ≡ false → disk.new ≡ disk.old }
     ensures size { I.size disk.new ≡ I.size disk.old }
     ensures counted { RoseBy (length responder.new.player.failures.items) (I.faults disk.old) (I.faults disk.new) }

@@ -9,7 +9,7 @@ ghost use Rattle.vd_laws.specs.Runs.{IsAddressed, IsWhole};
 ghost use Rattle.vd_options.specs.Words.{Sizes, asked_sizes};
 ghost use Rattle.vd_top.specs.Asked.{HasSizes, IsGiven};
 ghost use Rattle.vd_top.specs.Executes.{AreFailures, AreUpTo, RoseBy, executes};
-ghost use Rattle.vd_top.specs.Pictures.{ImageAt};
+ghost use Rattle.vd_top.specs.Pictures.{ImageAt, shown};
 ghost use Rattle.vd_top.specs.RunLaws.{RunLaws};
 ghost use Rattle.vd_top.specs.Written.{StopsBy, WritesBy, stop_of_status, is_status, is_line_status};
 
@@ -61,11 +61,13 @@ pub fn script_top<S: Source, K: Sink, I: Image>(
     ensures no_line { is_line_status result.status ≡ false → result.line ≡ 0 }
 
     // The image holds what the run of the lines stored whose replies are written; perhaps that of one line more
-    // where the sink failed or memory was short.
+    // where the sink failed or memory was short. It was flushed as often at least as flushes succeeded in that run, as
+    // far as its count can tell.
     ensures image { (sizes : Sizes) (x : Setting) (text : List ℕ) →
         IsGiven (map string_bytes words.now.items) sizes (S.left source.old) text →
         HasSizes x sizes → IsImage x [] (I.size disk.old) (I.content disk.old) →
-        ImageAt x text result.disk_failures (stop_of_status result.status) result.lines_done (I.size disk.new) (I.content disk.new) }
+        ImageAt x text result.disk_failures (stop_of_status result.status) result.lines_done
+        (I.size disk.new) (shown I.content I.flushes disk.old) (shown I.content I.flushes disk.new) }
     ensures size { I.size disk.new ≡ I.size disk.old }
 
     // It failed at executes alone, which are told in their order; its count tells as many failures. Where there is

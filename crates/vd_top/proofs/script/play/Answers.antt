@@ -3,6 +3,7 @@ use Rattle.vd_lines.specs.Ahead.{Ahead}
 use Rattle.vd_lines.specs.IsAt.{IsNext, IsRead}
 use Rattle.vd_lines.proofs.Places.{at_first}
 use Rattle.vd_output.specs.Served.{served_reading}
+use Rattle.vd_top.specs.Pictures.{shown}
 use Rattle.vd_top.specs.declared.progress.Progress.{Progress}
 use Rattle.vd_top.specs.Executes.{is_execute_line}
 use Rattle.vd_top.specs.Played.{Answered, StoppedBy, Played}
@@ -19,7 +20,7 @@ loop-responder-init g c =
     let none = ap length c.requires.failures in
     record {
       playing = λ text told. record {
-        so = so_first text c.args.responder.now.player (g.K.Sink.held c.args.sink.now) (g.I.Image.size c.args.disk.now) (g.I.Image.content c.args.disk.now) c.requires.waiting c.requires.failures;
+        so = so_first text c.args.responder.now.player (g.K.Sink.held c.args.sink.now) (g.I.Image.size c.args.disk.now) (shown g.I.Image.content g.I.Image.flushes c.args.disk.now) c.requires.waiting c.requires.failures;
         at = at_first text c.new-reader.result (g.S.Source.left c.args.source.now) c.new-reader.ensures told;
       };
       untouched = λ text told none. refl;
@@ -37,25 +38,25 @@ loop-responder-init g c =
 pub returns-in-Ok-End-clause-played : goal.returns-in-Ok-End-clause-played
 returns-in-Ok-End-clause-played g c = λ text told.
     let p = c.loop-responder.invariant.playing text told in
-    halt_end text c.loop-responder.lines c.args.responder.now.player.engine c.loop-responder.responder.player c.loop-responder.reader (g.S.Source.left c.loop-responder.source) (g.K.Sink.held c.args.sink.now) (g.K.Sink.held c.loop-responder.sink) (g.I.Image.size c.args.disk.now) (g.I.Image.content c.args.disk.now) (g.I.Image.content c.loop-responder.disk) p (g.S.Source.left c.advance.new.source)
+    halt_end text c.loop-responder.lines c.args.responder.now.player.engine c.loop-responder.responder.player c.loop-responder.reader (g.S.Source.left c.loop-responder.source) (g.K.Sink.held c.args.sink.now) (g.K.Sink.held c.loop-responder.sink) (g.I.Image.size c.args.disk.now) (shown g.I.Image.content g.I.Image.flushes c.args.disk.now) (shown g.I.Image.content g.I.Image.flushes c.loop-responder.disk) p (g.S.Source.left c.advance.new.source)
     (subst (λ n. IsNext text p.so.done c.advance.new.self (g.S.Source.left c.advance.new.source) (Ok n)) c.in-Ok-End.field-0-is (c.in-Ok-End.ensures.next text p.so.done p.at))
 
 pub returns-in-Err-Failed-clause-played : goal.returns-in-Err-Failed-clause-played
 returns-in-Err-Failed-clause-played g c = λ text told.
     let p = c.loop-responder.invariant.playing text told in
-    halt_failed text c.loop-responder.lines c.args.responder.now.player.engine c.loop-responder.responder.player c.loop-responder.reader (g.S.Source.left c.loop-responder.source) (g.K.Sink.held c.args.sink.now) (g.K.Sink.held c.loop-responder.sink) (g.I.Image.size c.args.disk.now) (g.I.Image.content c.args.disk.now) (g.I.Image.content c.loop-responder.disk) p (g.S.Source.left c.advance.new.source)
+    halt_failed text c.loop-responder.lines c.args.responder.now.player.engine c.loop-responder.responder.player c.loop-responder.reader (g.S.Source.left c.loop-responder.source) (g.K.Sink.held c.args.sink.now) (g.K.Sink.held c.loop-responder.sink) (g.I.Image.size c.args.disk.now) (shown g.I.Image.content g.I.Image.flushes c.args.disk.now) (shown g.I.Image.content g.I.Image.flushes c.loop-responder.disk) p (g.S.Source.left c.advance.new.source)
     (subst (λ n. IsNext text p.so.done c.advance.new.self (g.S.Source.left c.advance.new.source) (Err n)) c.in-Err-Failed.field-0-is (c.in-Err-Failed.ensures.next text p.so.done p.at))
 
 pub returns-in-Err-TooLong-clause-played : goal.returns-in-Err-TooLong-clause-played
 returns-in-Err-TooLong-clause-played g c = λ text told.
     let p = c.loop-responder.invariant.playing text told in
-    halt_long text c.loop-responder.lines c.args.responder.now.player.engine c.loop-responder.responder.player c.loop-responder.reader (g.S.Source.left c.loop-responder.source) (g.K.Sink.held c.args.sink.now) (g.K.Sink.held c.loop-responder.sink) (g.I.Image.size c.args.disk.now) (g.I.Image.content c.args.disk.now) (g.I.Image.content c.loop-responder.disk) p (g.S.Source.left c.advance.new.source)
+    halt_long text c.loop-responder.lines c.args.responder.now.player.engine c.loop-responder.responder.player c.loop-responder.reader (g.S.Source.left c.loop-responder.source) (g.K.Sink.held c.args.sink.now) (g.K.Sink.held c.loop-responder.sink) (g.I.Image.size c.args.disk.now) (shown g.I.Image.content g.I.Image.flushes c.args.disk.now) (shown g.I.Image.content g.I.Image.flushes c.loop-responder.disk) p (g.S.Source.left c.advance.new.source)
     (subst (λ n. IsNext text p.so.done c.advance.new.self (g.S.Source.left c.advance.new.source) (Err n)) c.in-Err-TooLong.field-0-is (c.in-Err-TooLong.ensures.next text p.so.done p.at))
 
 pub returns-in-Err-Memory-clause-played : goal.returns-in-Err-Memory-clause-played
 returns-in-Err-Memory-clause-played g c = λ text told.
     let p = c.loop-responder.invariant.playing text told in
-    halt_memory text c.loop-responder.lines c.args.responder.now.player.engine c.loop-responder.responder.player c.loop-responder.reader (g.S.Source.left c.loop-responder.source) (g.K.Sink.held c.args.sink.now) (g.K.Sink.held c.loop-responder.sink) (g.I.Image.size c.args.disk.now) (g.I.Image.content c.args.disk.now) (g.I.Image.content c.loop-responder.disk) p (g.S.Source.left c.advance.new.source)
+    halt_memory text c.loop-responder.lines c.args.responder.now.player.engine c.loop-responder.responder.player c.loop-responder.reader (g.S.Source.left c.loop-responder.source) (g.K.Sink.held c.args.sink.now) (g.K.Sink.held c.loop-responder.sink) (g.I.Image.size c.args.disk.now) (shown g.I.Image.content g.I.Image.flushes c.args.disk.now) (shown g.I.Image.content g.I.Image.flushes c.loop-responder.disk) p (g.S.Source.left c.advance.new.source)
 
 pub returns-in-Ok-Last-clause-played : goal.returns-in-Ok-Last-clause-played
 returns-in-Ok-Last-clause-played g c = λ text told.
@@ -64,15 +65,15 @@ returns-in-Ok-Last-clause-played g c = λ text told.
     subst (λ n. IsNext text p.so.done c.advance.new.self (g.S.Source.left c.advance.new.source) (Ok n)) c.in-Ok-Last.field-0-is (c.in-Ok-Last.ensures.next text p.so.done p.at) in
     elim c.match-answer.branch [
       | in-Err w ↦
-          subst (λ (r : Progress). Played text r.stop r.lines c.args.responder.now.player.engine c.answer.new.self.player (g.S.Source.left c.advance.new.source) (g.K.Sink.held c.args.sink.now) (g.K.Sink.held c.answer.new.sink) (g.I.Image.size c.args.disk.now) (g.I.Image.content c.args.disk.now) (g.I.Image.content c.answer.new.disk)) (sym w.result-is)
-          (halt_line text c.loop-responder.lines c.args.responder.now.player.engine c.loop-responder.responder.player c.loop-responder.reader (g.S.Source.left c.loop-responder.source) (g.K.Sink.held c.args.sink.now) (g.K.Sink.held c.loop-responder.sink) (g.I.Image.size c.args.disk.now) (g.I.Image.content c.args.disk.now) (g.I.Image.content c.loop-responder.disk) p c.advance.new.self.line [] w.in-Err.progress.stop w.in-Err.progress.lines c.answer.new.self.player (g.S.Source.left c.advance.new.source) (g.K.Sink.held c.answer.new.sink) (g.I.Image.content c.answer.new.disk) next.0.lines_are next.1
-          (subst (λ l. StoppedBy w.in-Err.progress.stop w.in-Err.progress.lines (served_reading l) c.loop-responder.lines c.loop-responder.responder.player c.answer.new.self.player (g.K.Sink.held c.loop-responder.sink) (g.K.Sink.held c.answer.new.sink) (g.I.Image.size c.args.disk.now) (g.I.Image.content c.loop-responder.disk) (g.I.Image.content c.answer.new.disk)) c.line.ensures
-          (subst (λ n. StoppedBy w.in-Err.progress.stop w.in-Err.progress.lines (served_reading c.line.result.now) c.loop-responder.lines c.loop-responder.responder.player c.answer.new.self.player (g.K.Sink.held c.loop-responder.sink) (g.K.Sink.held c.answer.new.sink) n (g.I.Image.content c.loop-responder.disk) (g.I.Image.content c.answer.new.disk)) c.loop-responder.invariant.size w.in-Err.ensures.answered)))
+          subst (λ (r : Progress). Played text r.stop r.lines c.args.responder.now.player.engine c.answer.new.self.player (g.S.Source.left c.advance.new.source) (g.K.Sink.held c.args.sink.now) (g.K.Sink.held c.answer.new.sink) (g.I.Image.size c.args.disk.now) (shown g.I.Image.content g.I.Image.flushes c.args.disk.now) (shown g.I.Image.content g.I.Image.flushes c.answer.new.disk)) (sym w.result-is)
+          (halt_line text c.loop-responder.lines c.args.responder.now.player.engine c.loop-responder.responder.player c.loop-responder.reader (g.S.Source.left c.loop-responder.source) (g.K.Sink.held c.args.sink.now) (g.K.Sink.held c.loop-responder.sink) (g.I.Image.size c.args.disk.now) (shown g.I.Image.content g.I.Image.flushes c.args.disk.now) (shown g.I.Image.content g.I.Image.flushes c.loop-responder.disk) p c.advance.new.self.line [] w.in-Err.progress.stop w.in-Err.progress.lines c.answer.new.self.player (g.S.Source.left c.advance.new.source) (g.K.Sink.held c.answer.new.sink) (shown g.I.Image.content g.I.Image.flushes c.answer.new.disk) next.0.lines_are next.1
+          (subst (λ l. StoppedBy w.in-Err.progress.stop w.in-Err.progress.lines (served_reading l) c.loop-responder.lines c.loop-responder.responder.player c.answer.new.self.player (g.K.Sink.held c.loop-responder.sink) (g.K.Sink.held c.answer.new.sink) (g.I.Image.size c.args.disk.now) (shown g.I.Image.content g.I.Image.flushes c.loop-responder.disk) (shown g.I.Image.content g.I.Image.flushes c.answer.new.disk)) c.line.ensures
+          (subst (λ n. StoppedBy w.in-Err.progress.stop w.in-Err.progress.lines (served_reading c.line.result.now) c.loop-responder.lines c.loop-responder.responder.player c.answer.new.self.player (g.K.Sink.held c.loop-responder.sink) (g.K.Sink.held c.answer.new.sink) n (shown g.I.Image.content g.I.Image.flushes c.loop-responder.disk) (shown g.I.Image.content g.I.Image.flushes c.answer.new.disk)) c.loop-responder.invariant.size w.in-Err.ensures.answered)))
       | in-Ok w ↦
-          subst (λ (r : Progress). Played text r.stop r.lines c.args.responder.now.player.engine c.answer.new.self.player (g.S.Source.left c.advance.new.source) (g.K.Sink.held c.args.sink.now) (g.K.Sink.held c.answer.new.sink) (g.I.Image.size c.args.disk.now) (g.I.Image.content c.args.disk.now) (g.I.Image.content c.answer.new.disk)) (sym w.result-is)
-          (halt_last text c.loop-responder.lines c.args.responder.now.player.engine c.loop-responder.responder.player c.loop-responder.reader (g.S.Source.left c.loop-responder.source) (g.K.Sink.held c.args.sink.now) (g.K.Sink.held c.loop-responder.sink) (g.I.Image.size c.args.disk.now) (g.I.Image.content c.args.disk.now) (g.I.Image.content c.loop-responder.disk) p c.advance.new.self.line c.answer.new.self.player (g.S.Source.left c.advance.new.source) (g.K.Sink.held c.answer.new.sink) (g.I.Image.content c.answer.new.disk) next.0 next.1
-          (subst (λ l. Answered (served_reading l) c.loop-responder.lines c.loop-responder.responder.player c.answer.new.self.player (g.K.Sink.held c.loop-responder.sink) (g.K.Sink.held c.answer.new.sink) (g.I.Image.size c.args.disk.now) (g.I.Image.content c.loop-responder.disk) (g.I.Image.content c.answer.new.disk)) c.line.ensures
-          (subst (λ n. Answered (served_reading c.line.result.now) c.loop-responder.lines c.loop-responder.responder.player c.answer.new.self.player (g.K.Sink.held c.loop-responder.sink) (g.K.Sink.held c.answer.new.sink) n (g.I.Image.content c.loop-responder.disk) (g.I.Image.content c.answer.new.disk)) c.loop-responder.invariant.size w.in-Ok.ensures.answered)))
+          subst (λ (r : Progress). Played text r.stop r.lines c.args.responder.now.player.engine c.answer.new.self.player (g.S.Source.left c.advance.new.source) (g.K.Sink.held c.args.sink.now) (g.K.Sink.held c.answer.new.sink) (g.I.Image.size c.args.disk.now) (shown g.I.Image.content g.I.Image.flushes c.args.disk.now) (shown g.I.Image.content g.I.Image.flushes c.answer.new.disk)) (sym w.result-is)
+          (halt_last text c.loop-responder.lines c.args.responder.now.player.engine c.loop-responder.responder.player c.loop-responder.reader (g.S.Source.left c.loop-responder.source) (g.K.Sink.held c.args.sink.now) (g.K.Sink.held c.loop-responder.sink) (g.I.Image.size c.args.disk.now) (shown g.I.Image.content g.I.Image.flushes c.args.disk.now) (shown g.I.Image.content g.I.Image.flushes c.loop-responder.disk) p c.advance.new.self.line c.answer.new.self.player (g.S.Source.left c.advance.new.source) (g.K.Sink.held c.answer.new.sink) (shown g.I.Image.content g.I.Image.flushes c.answer.new.disk) next.0 next.1
+          (subst (λ l. Answered (served_reading l) c.loop-responder.lines c.loop-responder.responder.player c.answer.new.self.player (g.K.Sink.held c.loop-responder.sink) (g.K.Sink.held c.answer.new.sink) (g.I.Image.size c.args.disk.now) (shown g.I.Image.content g.I.Image.flushes c.loop-responder.disk) (shown g.I.Image.content g.I.Image.flushes c.answer.new.disk)) c.line.ensures
+          (subst (λ n. Answered (served_reading c.line.result.now) c.loop-responder.lines c.loop-responder.responder.player c.answer.new.self.player (g.K.Sink.held c.loop-responder.sink) (g.K.Sink.held c.answer.new.sink) n (shown g.I.Image.content g.I.Image.flushes c.loop-responder.disk) (shown g.I.Image.content g.I.Image.flushes c.answer.new.disk)) c.loop-responder.invariant.size w.in-Ok.ensures.answered)))
     ]
 
 pub returns-in-Ok-Last-clause-untouched : goal.returns-in-Ok-Last-clause-untouched
@@ -80,38 +81,38 @@ returns-in-Ok-Last-clause-untouched g c = λ text told none.
     let p = c.loop-responder.invariant.playing text told in
     let next : IsRead text (p.so.done ++ c.advance.new.self.line ∷ []) (g.S.Source.left c.advance.new.source) × (length c.advance.new.self.line ≤ 65536) =
     subst (λ n. IsNext text p.so.done c.advance.new.self (g.S.Source.left c.advance.new.source) (Ok n)) c.in-Ok-Last.field-0-is (c.in-Ok-Last.ensures.next text p.so.done p.at) in
-    c.answer.ensures.only_execute (ap is_execute_line c.line.ensures ∙ goes_quiet text c.loop-responder.lines c.args.responder.now.player.engine c.loop-responder.responder.player c.loop-responder.reader (g.S.Source.left c.loop-responder.source) (g.K.Sink.held c.args.sink.now) (g.K.Sink.held c.loop-responder.sink) (g.I.Image.size c.args.disk.now) (g.I.Image.content c.args.disk.now) (g.I.Image.content c.loop-responder.disk) p c.advance.new.self.line [] next.0.lines_are next.1 none)
+    c.answer.ensures.only_execute (ap is_execute_line c.line.ensures ∙ goes_quiet text c.loop-responder.lines c.args.responder.now.player.engine c.loop-responder.responder.player c.loop-responder.reader (g.S.Source.left c.loop-responder.source) (g.K.Sink.held c.args.sink.now) (g.K.Sink.held c.loop-responder.sink) (g.I.Image.size c.args.disk.now) (shown g.I.Image.content g.I.Image.flushes c.args.disk.now) (shown g.I.Image.content g.I.Image.flushes c.loop-responder.disk) p c.advance.new.self.line [] next.0.lines_are next.1 none)
     ∙ c.loop-responder.invariant.untouched text told none
 
 pub returns-in-Err-answer-clause-played : goal.returns-in-Err-answer-clause-played
 returns-in-Err-answer-clause-played g c = λ text told.
     let p = c.loop-responder.invariant.playing text told in
     let next = subst (λ n. IsNext text p.so.done c.advance.new.self (g.S.Source.left c.advance.new.source) (Ok n)) c.in-Ok-Line.field-0-is (c.in-Ok-Line.ensures.next text p.so.done p.at) in
-    halt_line text c.loop-responder.lines c.args.responder.now.player.engine c.loop-responder.responder.player c.loop-responder.reader (g.S.Source.left c.loop-responder.source) (g.K.Sink.held c.args.sink.now) (g.K.Sink.held c.loop-responder.sink) (g.I.Image.size c.args.disk.now) (g.I.Image.content c.args.disk.now) (g.I.Image.content c.loop-responder.disk) p c.advance.new.self.line next.1.after c.in-Err-answer.progress.stop c.in-Err-answer.progress.lines c.answer-in-loop-responder.new.self.player (g.S.Source.left c.advance.new.source) (g.K.Sink.held c.answer-in-loop-responder.new.sink) (g.I.Image.content c.answer-in-loop-responder.new.disk) next.1.lines_are next.2
-    (subst (λ l. StoppedBy c.in-Err-answer.progress.stop c.in-Err-answer.progress.lines (served_reading l) c.loop-responder.lines c.loop-responder.responder.player c.answer-in-loop-responder.new.self.player (g.K.Sink.held c.loop-responder.sink) (g.K.Sink.held c.answer-in-loop-responder.new.sink) (g.I.Image.size c.args.disk.now) (g.I.Image.content c.loop-responder.disk) (g.I.Image.content c.answer-in-loop-responder.new.disk)) c.line-in-loop-responder.ensures
-    (subst (λ n. StoppedBy c.in-Err-answer.progress.stop c.in-Err-answer.progress.lines (served_reading c.line-in-loop-responder.result.now) c.loop-responder.lines c.loop-responder.responder.player c.answer-in-loop-responder.new.self.player (g.K.Sink.held c.loop-responder.sink) (g.K.Sink.held c.answer-in-loop-responder.new.sink) n (g.I.Image.content c.loop-responder.disk) (g.I.Image.content c.answer-in-loop-responder.new.disk)) c.loop-responder.invariant.size c.in-Err-answer.ensures.answered))
+    halt_line text c.loop-responder.lines c.args.responder.now.player.engine c.loop-responder.responder.player c.loop-responder.reader (g.S.Source.left c.loop-responder.source) (g.K.Sink.held c.args.sink.now) (g.K.Sink.held c.loop-responder.sink) (g.I.Image.size c.args.disk.now) (shown g.I.Image.content g.I.Image.flushes c.args.disk.now) (shown g.I.Image.content g.I.Image.flushes c.loop-responder.disk) p c.advance.new.self.line next.1.after c.in-Err-answer.progress.stop c.in-Err-answer.progress.lines c.answer-in-loop-responder.new.self.player (g.S.Source.left c.advance.new.source) (g.K.Sink.held c.answer-in-loop-responder.new.sink) (shown g.I.Image.content g.I.Image.flushes c.answer-in-loop-responder.new.disk) next.1.lines_are next.2
+    (subst (λ l. StoppedBy c.in-Err-answer.progress.stop c.in-Err-answer.progress.lines (served_reading l) c.loop-responder.lines c.loop-responder.responder.player c.answer-in-loop-responder.new.self.player (g.K.Sink.held c.loop-responder.sink) (g.K.Sink.held c.answer-in-loop-responder.new.sink) (g.I.Image.size c.args.disk.now) (shown g.I.Image.content g.I.Image.flushes c.loop-responder.disk) (shown g.I.Image.content g.I.Image.flushes c.answer-in-loop-responder.new.disk)) c.line-in-loop-responder.ensures
+    (subst (λ n. StoppedBy c.in-Err-answer.progress.stop c.in-Err-answer.progress.lines (served_reading c.line-in-loop-responder.result.now) c.loop-responder.lines c.loop-responder.responder.player c.answer-in-loop-responder.new.self.player (g.K.Sink.held c.loop-responder.sink) (g.K.Sink.held c.answer-in-loop-responder.new.sink) n (shown g.I.Image.content g.I.Image.flushes c.loop-responder.disk) (shown g.I.Image.content g.I.Image.flushes c.answer-in-loop-responder.new.disk)) c.loop-responder.invariant.size c.in-Err-answer.ensures.answered))
 
 pub returns-in-Err-answer-clause-untouched : goal.returns-in-Err-answer-clause-untouched
 returns-in-Err-answer-clause-untouched g c = λ text told none.
     let p = c.loop-responder.invariant.playing text told in
     let next = subst (λ n. IsNext text p.so.done c.advance.new.self (g.S.Source.left c.advance.new.source) (Ok n)) c.in-Ok-Line.field-0-is (c.in-Ok-Line.ensures.next text p.so.done p.at) in
-    c.answer-in-loop-responder.ensures.only_execute (ap is_execute_line c.line-in-loop-responder.ensures ∙ goes_quiet text c.loop-responder.lines c.args.responder.now.player.engine c.loop-responder.responder.player c.loop-responder.reader (g.S.Source.left c.loop-responder.source) (g.K.Sink.held c.args.sink.now) (g.K.Sink.held c.loop-responder.sink) (g.I.Image.size c.args.disk.now) (g.I.Image.content c.args.disk.now) (g.I.Image.content c.loop-responder.disk) p c.advance.new.self.line next.1.after next.1.lines_are next.2 none)
+    c.answer-in-loop-responder.ensures.only_execute (ap is_execute_line c.line-in-loop-responder.ensures ∙ goes_quiet text c.loop-responder.lines c.args.responder.now.player.engine c.loop-responder.responder.player c.loop-responder.reader (g.S.Source.left c.loop-responder.source) (g.K.Sink.held c.args.sink.now) (g.K.Sink.held c.loop-responder.sink) (g.I.Image.size c.args.disk.now) (shown g.I.Image.content g.I.Image.flushes c.args.disk.now) (shown g.I.Image.content g.I.Image.flushes c.loop-responder.disk) p c.advance.new.self.line next.1.after next.1.lines_are next.2 none)
     ∙ c.loop-responder.invariant.untouched text told none
 
 pub returns-in-Err-flush-clause-played : goal.returns-in-Err-flush-clause-played
 returns-in-Err-flush-clause-played g c = λ text told.
     let p = c.loop-responder.invariant.playing text told in
     let next = subst (λ n. IsNext text p.so.done c.advance.new.self (g.S.Source.left c.advance.new.source) (Ok n)) c.in-Ok-Line.field-0-is (c.in-Ok-Line.ensures.next text p.so.done p.at) in
-    let more = go_on text c.loop-responder.lines c.args.responder.now.player.engine c.loop-responder.responder.player c.loop-responder.reader (g.S.Source.left c.loop-responder.source) (g.K.Sink.held c.args.sink.now) (g.K.Sink.held c.loop-responder.sink) (g.I.Image.size c.args.disk.now) (g.I.Image.content c.args.disk.now) (g.I.Image.content c.loop-responder.disk) p c.advance.new.self.line c.answer-in-loop-responder.new.self.player c.advance.new.self (g.S.Source.left c.advance.new.source) (g.K.Sink.held c.answer-in-loop-responder.new.sink) (g.I.Image.content c.answer-in-loop-responder.new.disk) next
-    (subst (λ l. Answered (served_reading l) c.loop-responder.lines c.loop-responder.responder.player c.answer-in-loop-responder.new.self.player (g.K.Sink.held c.loop-responder.sink) (g.K.Sink.held c.answer-in-loop-responder.new.sink) (g.I.Image.size c.args.disk.now) (g.I.Image.content c.loop-responder.disk) (g.I.Image.content c.answer-in-loop-responder.new.disk)) c.line-in-loop-responder.ensures
-    (subst (λ n. Answered (served_reading c.line-in-loop-responder.result.now) c.loop-responder.lines c.loop-responder.responder.player c.answer-in-loop-responder.new.self.player (g.K.Sink.held c.loop-responder.sink) (g.K.Sink.held c.answer-in-loop-responder.new.sink) n (g.I.Image.content c.loop-responder.disk) (g.I.Image.content c.answer-in-loop-responder.new.disk)) c.loop-responder.invariant.size c.in-Ok-answer.ensures.answered)) in
-    halt_sink text (c.loop-responder.lines + 1) c.args.responder.now.player.engine c.answer-in-loop-responder.new.self.player c.advance.new.self (g.S.Source.left c.advance.new.source) (g.K.Sink.held c.args.sink.now) (g.K.Sink.held c.answer-in-loop-responder.new.sink) (g.I.Image.size c.args.disk.now) (g.I.Image.content c.args.disk.now) (g.I.Image.content c.answer-in-loop-responder.new.disk) more (g.K.Sink.held c.flush.new.sink) c.in-Err-flush.written c.in-Err-flush.ensures.front
+    let more = go_on text c.loop-responder.lines c.args.responder.now.player.engine c.loop-responder.responder.player c.loop-responder.reader (g.S.Source.left c.loop-responder.source) (g.K.Sink.held c.args.sink.now) (g.K.Sink.held c.loop-responder.sink) (g.I.Image.size c.args.disk.now) (shown g.I.Image.content g.I.Image.flushes c.args.disk.now) (shown g.I.Image.content g.I.Image.flushes c.loop-responder.disk) p c.advance.new.self.line c.answer-in-loop-responder.new.self.player c.advance.new.self (g.S.Source.left c.advance.new.source) (g.K.Sink.held c.answer-in-loop-responder.new.sink) (shown g.I.Image.content g.I.Image.flushes c.answer-in-loop-responder.new.disk) next
+    (subst (λ l. Answered (served_reading l) c.loop-responder.lines c.loop-responder.responder.player c.answer-in-loop-responder.new.self.player (g.K.Sink.held c.loop-responder.sink) (g.K.Sink.held c.answer-in-loop-responder.new.sink) (g.I.Image.size c.args.disk.now) (shown g.I.Image.content g.I.Image.flushes c.loop-responder.disk) (shown g.I.Image.content g.I.Image.flushes c.answer-in-loop-responder.new.disk)) c.line-in-loop-responder.ensures
+    (subst (λ n. Answered (served_reading c.line-in-loop-responder.result.now) c.loop-responder.lines c.loop-responder.responder.player c.answer-in-loop-responder.new.self.player (g.K.Sink.held c.loop-responder.sink) (g.K.Sink.held c.answer-in-loop-responder.new.sink) n (shown g.I.Image.content g.I.Image.flushes c.loop-responder.disk) (shown g.I.Image.content g.I.Image.flushes c.answer-in-loop-responder.new.disk)) c.loop-responder.invariant.size c.in-Ok-answer.ensures.answered)) in
+    halt_sink text (c.loop-responder.lines + 1) c.args.responder.now.player.engine c.answer-in-loop-responder.new.self.player c.advance.new.self (g.S.Source.left c.advance.new.source) (g.K.Sink.held c.args.sink.now) (g.K.Sink.held c.answer-in-loop-responder.new.sink) (g.I.Image.size c.args.disk.now) (shown g.I.Image.content g.I.Image.flushes c.args.disk.now) (shown g.I.Image.content g.I.Image.flushes c.answer-in-loop-responder.new.disk) more (g.K.Sink.held c.flush.new.sink) c.in-Err-flush.written c.in-Err-flush.ensures.front
 
 pub returns-in-Err-flush-clause-untouched : goal.returns-in-Err-flush-clause-untouched
 returns-in-Err-flush-clause-untouched g c = λ text told none.
     let p = c.loop-responder.invariant.playing text told in
     let next = subst (λ n. IsNext text p.so.done c.advance.new.self (g.S.Source.left c.advance.new.source) (Ok n)) c.in-Ok-Line.field-0-is (c.in-Ok-Line.ensures.next text p.so.done p.at) in
-    c.answer-in-loop-responder.ensures.only_execute (ap is_execute_line c.line-in-loop-responder.ensures ∙ goes_quiet text c.loop-responder.lines c.args.responder.now.player.engine c.loop-responder.responder.player c.loop-responder.reader (g.S.Source.left c.loop-responder.source) (g.K.Sink.held c.args.sink.now) (g.K.Sink.held c.loop-responder.sink) (g.I.Image.size c.args.disk.now) (g.I.Image.content c.args.disk.now) (g.I.Image.content c.loop-responder.disk) p c.advance.new.self.line next.1.after next.1.lines_are next.2 none)
+    c.answer-in-loop-responder.ensures.only_execute (ap is_execute_line c.line-in-loop-responder.ensures ∙ goes_quiet text c.loop-responder.lines c.args.responder.now.player.engine c.loop-responder.responder.player c.loop-responder.reader (g.S.Source.left c.loop-responder.source) (g.K.Sink.held c.args.sink.now) (g.K.Sink.held c.loop-responder.sink) (g.I.Image.size c.args.disk.now) (shown g.I.Image.content g.I.Image.flushes c.args.disk.now) (shown g.I.Image.content g.I.Image.flushes c.loop-responder.disk) p c.advance.new.self.line next.1.after next.1.lines_are next.2 none)
     ∙ c.loop-responder.invariant.untouched text told none
 
 pub loop-responder-preserved : goal.loop-responder-preserved
@@ -127,14 +128,14 @@ loop-responder-preserved g c =
       playing = λ text told.
           let p = c.loop-responder.invariant.playing text told in
           let next = subst (λ n. IsNext text p.so.done c.advance.new.self (g.S.Source.left c.advance.new.source) (Ok n)) c.in-Ok-Line.field-0-is (c.in-Ok-Line.ensures.next text p.so.done p.at) in
-          let more = go_on text c.loop-responder.lines c.args.responder.now.player.engine c.loop-responder.responder.player c.loop-responder.reader (g.S.Source.left c.loop-responder.source) (g.K.Sink.held c.args.sink.now) (g.K.Sink.held c.loop-responder.sink) (g.I.Image.size c.args.disk.now) (g.I.Image.content c.args.disk.now) (g.I.Image.content c.loop-responder.disk) p c.advance.new.self.line c.answer-in-loop-responder.new.self.player c.advance.new.self (g.S.Source.left c.advance.new.source) (g.K.Sink.held c.answer-in-loop-responder.new.sink) (g.I.Image.content c.answer-in-loop-responder.new.disk) next
-          (subst (λ l. Answered (served_reading l) c.loop-responder.lines c.loop-responder.responder.player c.answer-in-loop-responder.new.self.player (g.K.Sink.held c.loop-responder.sink) (g.K.Sink.held c.answer-in-loop-responder.new.sink) (g.I.Image.size c.args.disk.now) (g.I.Image.content c.loop-responder.disk) (g.I.Image.content c.answer-in-loop-responder.new.disk)) c.line-in-loop-responder.ensures
-          (subst (λ n. Answered (served_reading c.line-in-loop-responder.result.now) c.loop-responder.lines c.loop-responder.responder.player c.answer-in-loop-responder.new.self.player (g.K.Sink.held c.loop-responder.sink) (g.K.Sink.held c.answer-in-loop-responder.new.sink) n (g.I.Image.content c.loop-responder.disk) (g.I.Image.content c.answer-in-loop-responder.new.disk)) c.loop-responder.invariant.size c.in-Ok-answer.ensures.answered)) in
-          go_flushed text (c.loop-responder.lines + 1) c.args.responder.now.player.engine c.answer-in-loop-responder.new.self.player c.advance.new.self (g.S.Source.left c.advance.new.source) (g.K.Sink.held c.args.sink.now) (g.K.Sink.held c.answer-in-loop-responder.new.sink) (g.I.Image.size c.args.disk.now) (g.I.Image.content c.args.disk.now) (g.I.Image.content c.answer-in-loop-responder.new.disk) more (g.K.Sink.held c.flush.new.sink) c.flush.new.waiting c.in-Ok-flush.ensures.ok;
+          let more = go_on text c.loop-responder.lines c.args.responder.now.player.engine c.loop-responder.responder.player c.loop-responder.reader (g.S.Source.left c.loop-responder.source) (g.K.Sink.held c.args.sink.now) (g.K.Sink.held c.loop-responder.sink) (g.I.Image.size c.args.disk.now) (shown g.I.Image.content g.I.Image.flushes c.args.disk.now) (shown g.I.Image.content g.I.Image.flushes c.loop-responder.disk) p c.advance.new.self.line c.answer-in-loop-responder.new.self.player c.advance.new.self (g.S.Source.left c.advance.new.source) (g.K.Sink.held c.answer-in-loop-responder.new.sink) (shown g.I.Image.content g.I.Image.flushes c.answer-in-loop-responder.new.disk) next
+          (subst (λ l. Answered (served_reading l) c.loop-responder.lines c.loop-responder.responder.player c.answer-in-loop-responder.new.self.player (g.K.Sink.held c.loop-responder.sink) (g.K.Sink.held c.answer-in-loop-responder.new.sink) (g.I.Image.size c.args.disk.now) (shown g.I.Image.content g.I.Image.flushes c.loop-responder.disk) (shown g.I.Image.content g.I.Image.flushes c.answer-in-loop-responder.new.disk)) c.line-in-loop-responder.ensures
+          (subst (λ n. Answered (served_reading c.line-in-loop-responder.result.now) c.loop-responder.lines c.loop-responder.responder.player c.answer-in-loop-responder.new.self.player (g.K.Sink.held c.loop-responder.sink) (g.K.Sink.held c.answer-in-loop-responder.new.sink) n (shown g.I.Image.content g.I.Image.flushes c.loop-responder.disk) (shown g.I.Image.content g.I.Image.flushes c.answer-in-loop-responder.new.disk)) c.loop-responder.invariant.size c.in-Ok-answer.ensures.answered)) in
+          go_flushed text (c.loop-responder.lines + 1) c.args.responder.now.player.engine c.answer-in-loop-responder.new.self.player c.advance.new.self (g.S.Source.left c.advance.new.source) (g.K.Sink.held c.args.sink.now) (g.K.Sink.held c.answer-in-loop-responder.new.sink) (g.I.Image.size c.args.disk.now) (shown g.I.Image.content g.I.Image.flushes c.args.disk.now) (shown g.I.Image.content g.I.Image.flushes c.answer-in-loop-responder.new.disk) more (g.K.Sink.held c.flush.new.sink) c.flush.new.waiting c.in-Ok-flush.ensures.ok;
       untouched = λ text told none.
           let p = c.loop-responder.invariant.playing text told in
           let next = subst (λ n. IsNext text p.so.done c.advance.new.self (g.S.Source.left c.advance.new.source) (Ok n)) c.in-Ok-Line.field-0-is (c.in-Ok-Line.ensures.next text p.so.done p.at) in
-          c.answer-in-loop-responder.ensures.only_execute (ap is_execute_line c.line-in-loop-responder.ensures ∙ goes_quiet text c.loop-responder.lines c.args.responder.now.player.engine c.loop-responder.responder.player c.loop-responder.reader (g.S.Source.left c.loop-responder.source) (g.K.Sink.held c.args.sink.now) (g.K.Sink.held c.loop-responder.sink) (g.I.Image.size c.args.disk.now) (g.I.Image.content c.args.disk.now) (g.I.Image.content c.loop-responder.disk) p c.advance.new.self.line next.1.after next.1.lines_are next.2 none)
+          c.answer-in-loop-responder.ensures.only_execute (ap is_execute_line c.line-in-loop-responder.ensures ∙ goes_quiet text c.loop-responder.lines c.args.responder.now.player.engine c.loop-responder.responder.player c.loop-responder.reader (g.S.Source.left c.loop-responder.source) (g.K.Sink.held c.args.sink.now) (g.K.Sink.held c.loop-responder.sink) (g.I.Image.size c.args.disk.now) (shown g.I.Image.content g.I.Image.flushes c.args.disk.now) (shown g.I.Image.content g.I.Image.flushes c.loop-responder.disk) p c.advance.new.self.line next.1.after next.1.lines_are next.2 none)
           ∙ c.loop-responder.invariant.untouched text told none;
       size = c.answer-in-loop-responder.ensures.size ∙ c.loop-responder.invariant.size;
       counted = c.answer-in-loop-responder.ensures.counted _ c.loop-responder.invariant.counted;

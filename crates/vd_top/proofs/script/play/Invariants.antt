@@ -1,5 +1,6 @@
 use Rattle.std.proofs.Common.{ℕ, ◌≡◌, ◌≤◌, ◌+◌, ◌-◌, List, [], Some, length, false}
 use Rattle.vd_engine.specs.Machine.{IsReached}
+use Rattle.vd_top.specs.Pictures.{shown}
 use Rattle.vd_top.specs.Executes.{executes, RoseBy}
 use Rattle.vd_top.proofs.Halts.{Playing}
 use Rattle.vd_top.proofs.script.play.Given as goal
@@ -8,7 +9,7 @@ abbrev pub invariant-loop-responder : goal.invariant-loop-responder
 invariant-loop-responder g l = record {
   playing : (text : List ℕ) → g.S.Source.left l.fn.source ≡ Some text
       → Playing text l.lines l.fn.responder.player.engine l.responder.player l.reader (g.S.Source.left l.source) (g.K.Sink.held l.fn.sink) (g.K.Sink.held l.sink)
-      (g.I.Image.size l.fn.disk) (g.I.Image.content l.fn.disk) (g.I.Image.content l.disk);
+      (g.I.Image.size l.fn.disk) (shown g.I.Image.content g.I.Image.flushes l.fn.disk) (shown g.I.Image.content g.I.Image.flushes l.disk);
   untouched : (text : List ℕ) → g.S.Source.left l.fn.source ≡ Some text → executes text ≡ false → l.disk ≡ l.fn.disk;
   size : g.I.Image.size l.disk ≡ g.I.Image.size l.fn.disk;
   counted : RoseBy (length l.responder.player.failures.items) (g.I.Image.faults l.fn.disk) (g.I.Image.faults l.disk);

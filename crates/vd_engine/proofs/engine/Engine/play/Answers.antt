@@ -1,3 +1,5 @@
+use Rattle.vd_model.specs.History.{deeds_of}
+use Rattle.vd_engine.proofs.Images.{holds_own}
 use Rattle.vd_engine.proofs.Engines.{stays, still_reached, still_sectors, reached_more, sectors_more, goes_on, image_on}
 use Rattle.vd_engine.proofs.engine.Engine.play.Goals as goal
 
@@ -24,3 +26,6 @@ returns-in-Ok-clause-reached g c = reached_more c.in-Ok.ensures.line c.requires.
 
 pub returns-in-Ok-clause-sectors : goal.returns-in-Ok-clause-sectors
 returns-in-Ok-clause-sectors g c = sectors_more c.in-Ok.ensures.line c.requires.reached
+
+pub returns-in-Ok-clause-flushed : goal.returns-in-Ok-clause-flushed
+returns-in-Ok-clause-flushed g c = λ x h s image. c.in-Ok.ensures.flushed x (deeds_of x h) s.stands (holds_own x h) image

@@ -12,7 +12,10 @@ use Rattle.vd_instance.specs.Image.{Plays, is_execute}
 use Rattle.vd_instance.specs.Stands.{After}
 use Rattle.vd_model.specs.Deeds.{Seen}
 use Rattle.vd_model.specs.History.{queue_turn}
+use Rattle.vd_instance.specs.Flushes.{is_flush}
 use Rattle.vd_instance.proofs.Executes.{no_execute}
+use Rattle.vd_instance.proofs.Flushing.{no_flush}
+use Rattle.vd_io.specs.Told.{Rose}
 use Rattle.vd_instance.proofs.instance.Instance.queue_step.Goals as goal
 
 pub returns-in-Err-clause-line : goal.returns-in-Err-clause-line
@@ -60,3 +63,11 @@ returns-in-Execute-clause-rest g c = record {
 
 pub returns-in-Execute-clause-within : goal.returns-in-Execute-clause-within
 returns-in-Execute-clause-within g c = λ most w. subst (λ (d : Device). device.IsWithin (most + 1) d) (sym c.execute.ensures.device) (within_later most (most + 1) _ (omega arith) w)
+
+pub returns-in-Ok-clause-flushed : goal.returns-in-Ok-clause-flushed
+returns-in-Ok-clause-flushed g c = λ x made name seen s named window e.
+    absurd (true≢false (sym e ∙ no_flush x seen.acts c.args.line.step.now (queue_turn x made name seen false c.args.line.step.now).answer c.in_default.not-Execute))
+
+pub returns-in-Execute-clause-flushed : goal.returns-in-Execute-clause-flushed
+returns-in-Execute-clause-flushed g c = λ x made name seen s named window e.
+    c.execute.ensures.flushed x made name seen c.args.pool.now s named window (subst (λ (step : QueueStep). is_flush x seen.acts step (queue_turn x made name seen c.execute.result step).answer ≡ true) c.in-Execute.is e)
