@@ -1,0 +1,13 @@
+pub mod Pendings
+pub mod Leaving
+pub mod Under
+pub mod Left
+pub mod Freeing
+pub mod Between
+pub mod Found
+pub mod Statuses
+pub mod Polls
+pub mod Told
+pub mod Turning
+pub mod Publishes
+pub mod Adds

@@ -1,0 +1,18 @@
+//! What is kept of a queue, and what is known of it.
+
+use blk_driver::BlkDriver;
+use vd_model::QueueInfo;
+
+/// The driver's side of a queue: the number of its ring's coherent region, and the ring with the requests that are pending.
+#[derive(Drop)]
+pub struct HeldDriver {
+    pub region: u64,
+    pub driver: BlkDriver,
+}
+
+/// What the state tells of a queue, where the device has it, and the features that the driver accepted.
+#[derive(Clone, Copy, Debug)]
+pub struct KnownDriver {
+    pub info: Option<QueueInfo>,
+    pub features: u64,
+}
