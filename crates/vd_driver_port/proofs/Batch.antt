@@ -1,8 +1,8 @@
 -- Several mappings, one after another.
-use Rattle.std.proofs.Common.{◌≡◌, ℕ, ◌+◌, ◌*◌, ◌<◌, ◌≤◌, refl, ap, sym, ◌∙◌, subst, arith, List, [], ◌∷◌, ◌++◌, append_assoc, append-nil, Some, Option, length}
+use Rattle.std.proofs.Common.{◌≡◌, ℕ, ◌+◌, ◌*◌, ◌≤◌, refl, ap, sym, ◌∙◌, subst, List, [], ◌∷◌, ◌++◌, append_assoc, append-nil, length}
 use Rattle.std.specs.List.{All}
 use Rattle.std.specs.Option.{option_map}
-use Rattle.std.proofs.lemmas.List.Elements.{All-nil, All-cons, All-head, All-tail, All-append, All-weaker}
+use Rattle.std.proofs.lemmas.List.Elements.{All-head, All-tail, All-append, All-weaker}
 use Rattle.vd_num.specs.Number.{pages_of}
 use Rattle.vd_pool.specs.Memory.{PoolMemory as Pool}
 use Rattle.vd_model.specs.declared.memory.Want.{Want}
@@ -13,7 +13,7 @@ use Rattle.vd_model.specs.RingTurns.{map_acts}
 use Rattle.vd_domain.specs.Held.{Held}
 use Rattle.vd_domain.specs.Seen.{ring_memory}
 use Rattle.vd_domain.specs.Stands as domain
-use Rattle.vd_buffers.specs.Places.{Places, place_of}
+use Rattle.vd_buffers.specs.Places.{Places}
 use Rattle.vd_buffers.specs.Stands as buffers
 use Rattle.vd_buffers.proofs.Changed.{leaves_buffers}
 use Rattle.vd_memory_lines.specs.declared.memory.Memory.{Memory}

@@ -1,7 +1,7 @@
 -- Filling a buffer.
-use Rattle.std.proofs.Common.{◌≡◌, ℕ, zero, suc, ◌+◌, ◌-◌, ◌<◌, Bool, true, false, ◌==◌, nat_le, nat_lt, ◌&&◌, not, if◌then◌else◌, refl, ap, sym, ◌∙◌, subst, arith, List, [], ◌∷◌, Some, None, Option, Result, Ok, Err, MatchResult, length, true≢false}
+use Rattle.std.proofs.Common.{◌≡◌, ℕ, zero, suc, ◌+◌, ◌-◌, Bool, true, false, ◌==◌, nat_le, nat_lt, ◌&&◌, not, if◌then◌else◌, refl, ap, sym, ◌∙◌, subst, arith, List, [], ◌∷◌, Some, None, Option, Result, Ok, Err, MatchResult, length, true≢false}
 use Rattle.std.specs.Result.{OnErr}
-use Rattle.std.specs.List.{slice_index, slice_get}
+use Rattle.std.specs.List.{slice_get}
 use Rattle.std.specs.Option.{option_map, option_map_or}
 use Rattle.std.proofs.Math.Logic.{∥∥₁_map}
 use Rattle.std.proofs.lemmas.Bool.Decides.{nat_tests}
@@ -12,9 +12,9 @@ use Rattle.vd_model.specs.declared.memory.Origin.TheVariants.{Handed}
 use Rattle.vd_model.specs.Setting.{Setting}
 use Rattle.vd_model.specs.Acts.{Act, Driver, Poked}
 use Rattle.vd_model.specs.Live.{live_mappings, buffer_len}
-use Rattle.vd_model.specs.Puts.{Ram, ram, last_put, put_or, text_at}
+use Rattle.vd_model.specs.Puts.{Ram, ram, last_put, put_or}
 use Rattle.vd_model.specs.Turn.{range_refusal, refusal_if}
-use Rattle.vd_buffers.specs.Places.{Places, place_of}
+use Rattle.vd_buffers.specs.Places.{Places}
 use Rattle.vd_buffers.specs.Stands as buffers
 use Rattle.vd_memory_lines.specs.declared.memory.Memory.{Memory}
 use Rattle.vd_memory_lines.specs.Stands.{Stands}

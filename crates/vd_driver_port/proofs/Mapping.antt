@@ -1,5 +1,5 @@
 -- The steps of the driver: puts into its rings, mappings, and their bytes.
-use Rattle.std.proofs.Common.{◌≡◌, ℕ, ◌+◌, ◌^◌, ◌≤◌, ◌<◌, Bool, true, false, refl, ap, sym, ◌∙◌, subst, arith, List, [], ◌∷◌, ◌++◌, Some, None, Option, Result, Ok, Err, MatchResult, length, ◌==◌, true≢false}
+use Rattle.std.proofs.Common.{◌≡◌, ℕ, ◌+◌, ◌^◌, ◌≤◌, ◌<◌, true, false, refl, sym, ◌∙◌, subst, arith, List, [], ◌∷◌, ◌++◌, Some, None, Option, Result, Ok, Err, length, true≢false}
 use Rattle.std.specs.Prelude.{is_some}
 use Rattle.std.specs.Result.{OnOk, OnErr, IfOk}
 use Rattle.std.specs.List.{All}
@@ -11,7 +11,7 @@ use Rattle.vd_model.specs.declared.memory.MapError.{MapError}
 use Rattle.vd_model.specs.declared.memory.Want.{Want}
 use Rattle.vd_model.specs.Setting.{Setting}
 use Rattle.vd_model.specs.Acts.{Act, Driver, Driver_put, Synced_device, Streaming}
-use Rattle.vd_model.specs.Live.{live_mappings, maps}
+use Rattle.vd_model.specs.Live.{maps}
 use Rattle.vd_model.specs.Place.{taken_slots}
 use Rattle.vd_model.specs.RingTurns.{placed_mappings, map_acts}
 use Rattle.vd_domain.specs.Held.{Held, mapping_of}
@@ -23,8 +23,8 @@ use Rattle.vd_memory_lines.specs.Stands.{Stands}
 use Rattle.vd_memory_lines.proofs.Parts.{domain_act}
 use Rattle.vd_ring_memory.specs.RingPuts.{IsRingReached}
 use Rattle.vd_ring_memory.proofs.RingTelling.{RingStored}
-use Rattle.vd_driver_port.specs.Reached.{IsReached, AreApart, IsInBuffer}
-use Rattle.vd_driver_port.proofs.Placed.{placed_all, IsPlaced}
+use Rattle.vd_driver_port.specs.Reached.{IsReached, IsInBuffer}
+use Rattle.vd_driver_port.proofs.Placed.{placed_all}
 use Rattle.vd_driver_port.proofs.Batch.{batch_stands, batch_apart, batch_quiet}
 use Rattle.vd_driver_port.proofs.Stepping.{Step, whole_of, refresh_step}
 

@@ -1,22 +1,19 @@
 -- What the driver does to its mappings changes no coherent byte.
-use Rattle.std.proofs.Common.{◌≡◌, ℕ, zero, suc, ◌+◌, ◌-◌, ◌*◌, ◌/◌, ◌<◌, ◌≤◌, Bool, true, false, if◌then◌else◌, nat_lt, ◌&&◌, ◌||◌, not, refl, ap, sym, ◌∙◌, subst, arith, List, [], ◌∷◌, ◌++◌, length, Some, None, Option, inl, inr, true≢false}
+use Rattle.std.proofs.Common.{◌≡◌, ℕ, zero, suc, ◌+◌, ◌-◌, ◌*◌, ◌/◌, ◌≤◌, Bool, true, false, if◌then◌else◌, nat_lt, ◌&&◌, ◌||◌, not, refl, ap, sym, ◌∙◌, subst, arith, List, [], ◌∷◌, Some, None, Option, true≢false}
 use Rattle.std.specs.List.{list_any, All}
 use Rattle.std.specs.Option.{option_and_then}
-use Rattle.std.proofs.lemmas.Bool.Decides.{nat_tests, leb_tells}
+use Rattle.std.proofs.lemmas.Bool.Decides.{nat_tests}
 use Rattle.std.proofs.lemmas.List.Elements.{All-head, All-tail}
 use Rattle.std.proofs.Math.Nat.{mul-le-mul_left}
 use Rattle.vd_num.specs.Number.{is_within, pages_of}
-use Rattle.vd_pool.specs.Memory.{PoolMemory as Pool}
 use Rattle.vd_model.specs.Setting.{Setting}
 use Rattle.vd_model.specs.Acts.{Act, Driver, DriverAct, Mapped, Unmapped, Synced_device, Streaming, Coherent}
-use Rattle.vd_model.specs.Live.{Registration, registration_of, live_regions, region_covers, page_of, meets_page, maps_address, is_present, iova_of}
+use Rattle.vd_model.specs.Live.{Registration, registration_of, live_regions, region_covers, page_of, meets_page, maps_address, is_present}
 use Rattle.vd_model.specs.Puts.{Iova, Area, shown_put, last_put, put_or, home_cell, is_moved, address_put, address_put_if, area_address, is_to_device, or_put, handed_put_if, zero_if}
 use Rattle.vd_domain.specs.Handed.{is_coherent}
 use Rattle.vd_domain.specs.Seen.{ring_memory}
 use Rattle.vd_domain.specs.Stands as domain
-use Rattle.vd_domain.specs.Held.{Held}
 use Rattle.vd_domain.proofs.Present.{page_past}
-use Rattle.vd_driver_port.specs.Reached.{AreApart}
 
 module _ (g : ℕ) (acts : List Act) (act : DriverAct) (a : ℕ) (none : address_put g (last_put g acts) acts (Driver act) a ≡ None) where
   quiet_cell : (r : Option Registration) → registration_of acts ≡ r → last_put g (Driver act ∷ acts) (home_cell r a) ≡ last_put g acts (home_cell r a)

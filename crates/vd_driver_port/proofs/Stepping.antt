@@ -1,6 +1,6 @@
 -- A step of the driver on a device's memory.
-use Rattle.std.proofs.Common.{◌≡◌, ℕ, ◌+◌, ◌*◌, ◌<◌, ◌≤◌, ◌==◌, Bool, true, false, not, refl, ap, sym, ◌∙◌, subst, List, [], ◌∷◌, ◌++◌, Some, None, Option, length, find, filter}
-use Rattle.std.specs.List.{All, slice_index, slice_set}
+use Rattle.std.proofs.Common.{◌≡◌, ℕ, ◌+◌, ◌*◌, ◌<◌, ◌≤◌, ◌==◌, not, refl, ap, sym, ◌∙◌, subst, List, [], ◌∷◌, ◌++◌, Some, None, Option, length, find, filter}
+use Rattle.std.specs.List.{slice_index, slice_set}
 use Rattle.std.specs.Option.{option_map, option_map_or}
 use Rattle.std.proofs.Math.Logic.{∥∥₁_elim, ∥∥₁_map}
 use Rattle.std.proofs.lemmas.List.Elements.{All-filter}

@@ -1,10 +1,9 @@
 -- What is left alone stays so after more calls.
-use Rattle.std.proofs.Common.{◌≡◌, ℕ, ◌+◌, ◌≤◌, refl, ap, sym, ◌∙◌, subst, arith, List, Option}
+use Rattle.std.proofs.Common.{◌≡◌, ℕ, ◌+◌, ◌≤◌, refl, ap, sym, ◌∙◌, subst, arith}
 use Rattle.vd_pool.specs.Memory.{PoolMemory as Pool}
 use Rattle.vd_bounce.specs.Bounce.{Bounce}
 use Rattle.vd_bounce.specs.Frames.{Holds, Keeps}
 use Rattle.vd_bounce.proofs.Kept.{keeps_none, keeps_more}
-use Rattle.vd_domain.specs.Held.{Held}
 use Rattle.vd_memory_lines.specs.declared.memory.Memory.{Memory}
 use Rattle.vd_ring_memory.specs.RingPutLemmas.{ring_after_none, ring_after_more}
 use Rattle.vd_driver_port.specs.Rest.{KeepsMemory, IsAfterPuts}

@@ -14,7 +14,7 @@ use Rattle.vd_model.specs.Creation.{Creation}
 use Rattle.vd_model.specs.Turn.{Turn, refusal_turn}
 use Rattle.vd_model.specs.Deeds.{Deed, made_with, image_byte}
 use Rattle.vd_model.specs.ControlTurns.{Outcome}
-use Rattle.vd_model.specs.History.{History, deeds_of, device_outcome, outcome, reply}
+use Rattle.vd_model.specs.History.{History, deeds_of, device_outcome, outcome}
 use Rattle.vd_device.specs.Sizes.{AreFit, IsSized}
 use Rattle.vd_instance.specs.Stands.{IsWithin}
 use Rattle.vd_engine.specs.declared.devices.Named.{Named}

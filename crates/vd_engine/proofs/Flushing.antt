@@ -1,5 +1,5 @@
 -- Which steps flush the image.
-use Rattle.std.proofs.Common.{◌≡◌, ℕ, Bool, true, false, refl, ap, sym, subst, ◌∙◌, true≢false, List, Result, Ok, Err}
+use Rattle.std.proofs.Common.{◌≡◌, ℕ, Bool, true, false, refl, sym, ◌∙◌, true≢false, List, Result, Ok, Err}
 use Rattle.vd_num.specs.declared.errno.Errno.{Errno}
 use Rattle.vd_model.specs.declared.answer.Answer.TheVariants as answer
 use Rattle.vd_model.specs.declared.step.QueueStep.{QueueStep}

@@ -1,6 +1,5 @@
 -- The sectors of the image that names have.
 use Rattle.std.proofs.Common.{◌≡◌, ℕ, ◌+◌, ◌≤◌, Bool, true, false, refl, ap, subst, ◌∙◌, sym, Option, None, Some, cond, List, [], ◌∷◌, ◌++◌, find, map, ◌||◌, inl, inr, arith}
-use Rattle.std.specs.Prelude.{All}
 use Rattle.std.specs.List.{list_any}
 use Rattle.std.specs.Option.{option_map}
 use Rattle.std.specs.Str.{bytes_eq}
@@ -11,7 +10,7 @@ use Rattle.vd_model.specs.Deeds.{Given as Has}
 use Rattle.vd_instance.specs.Image.{window_or_none}
 use Rattle.vd_engine.specs.declared.windows.Given.{Given}
 use Rattle.vd_engine.specs.Windows.{HasWindows, has_window, given_window, meets}
-use Rattle.vd_engine.proofs.Names.{find_push_hit, find_push_miss, found_at, pushed_at, named_is, names_itself, all_at, all_from}
+use Rattle.vd_engine.proofs.Names.{find_push_hit, find_push_miss, found_at, pushed_at, named_is, all_at, all_from}
 
 -- ---- what leaves them
 

@@ -12,7 +12,7 @@ use Rattle.vd_model.specs.State.{is_queue}
 use Rattle.vd_model.specs.BusTurns.{shape_of, is_missing}
 use Rattle.vd_state.specs.declared.queue.Queue.{Queue}
 use Rattle.vd_state.specs.Stands.{queue_of, generation_of}
-use Rattle.vd_control_path.specs.Ends.{ends_of, closings_of}
+use Rattle.vd_control_path.specs.Ends.{ends_of}
 use Rattle.vd_instance.specs.declared.instance.Instance.{Instance}
 use Rattle.vd_instance.specs.Stands.{Stands, IsWithin}
 

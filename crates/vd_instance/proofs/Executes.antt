@@ -1,5 +1,5 @@
 -- Which lines on a queue execute a request.
-use Rattle.std.proofs.Common.{◌≡◌, ℕ, true, false, refl}
+use Rattle.std.proofs.Common.{◌≡◌, ℕ, false, refl}
 use Rattle.vd_model.specs.declared.step.QueueStep.{QueueStep}
 use Rattle.vd_model.specs.declared.step.QueueStep.TheVariants as queue
 use Rattle.vd_instance.specs.Image.{is_execute}

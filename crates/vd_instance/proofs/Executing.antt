@@ -1,22 +1,22 @@
 -- A device after an execution of a request: of its parts only the block daemon of the queue changes.
-use Rattle.std.proofs.Common.{◌≡◌, ℕ, ◌+◌, ◌*◌, ◌<◌, Bool, true, false, refl, ap, sym, subst, ◌∙◌, not, List, [], ◌∷◌, ◌++◌, length, set, Option, Some, None, true≢false, ◌==◌, if◌then◌else◌}
+use Rattle.std.proofs.Common.{◌≡◌, ℕ, ◌+◌, ◌*◌, ◌<◌, Bool, true, false, refl, ap, sym, ◌∙◌, List, [], ◌∷◌, ◌++◌, length, set, Option, Some, None, true≢false, ◌==◌, if◌then◌else◌}
 use Rattle.std.specs.Prelude.{◌&&◌, is_some, IsSome, slice_index}
 use Rattle.std.specs.List.{list_all}
 use Rattle.std.specs.Option.{option_map, option_map_or}
 use Rattle.vd_num.specs.declared.errno.Errno.{Errno}
-use Rattle.vd_num.specs.declared.errno.Errno.TheVariants.{Badf, Noent, Inval}
+use Rattle.vd_num.specs.declared.errno.Errno.TheVariants.{Noent, Inval}
 use Rattle.vd_model.specs.declared.answer.Answer.{Answer}
 use Rattle.vd_model.specs.declared.memory.Window.{Window}
 use Rattle.vd_model.specs.Setting.{Setting}
 use Rattle.vd_model.specs.Creation.{Creation}
-use Rattle.vd_model.specs.Acts.{Act, NodeAct, QueueAct, DiskAct, Node, Driver, Bus, Message_act, State, Queue, Disk_act, Stored, Ring_made, Ring_dropped, Chain_added, Chains_published, Chain_reclaimed, Fetched, Executed, Finished}
+use Rattle.vd_model.specs.Acts.{Act, QueueAct, Node, Driver, Bus, Message_act, State, Queue, Disk_act, Stored, Ring_made, Ring_dropped, Chain_added, Chains_published, Chain_reclaimed, Fetched, Executed, Finished}
 use Rattle.vd_model.specs.Turn.{Turn, refuse, refusal_if, refusal_turn}
 use Rattle.vd_model.specs.BusTurns.{is_missing}
 use Rattle.vd_model.specs.Block as block
 use Rattle.vd_model.specs.Queues.{in_hand, execution_of}
-use Rattle.vd_model.specs.DaemonTurns.{Hand, hand, store_acts, executed_turn, execute_hand, execute_turn}
+use Rattle.vd_model.specs.DaemonTurns.{hand, store_acts, executed_turn, execute_hand, execute_turn}
 use Rattle.vd_model.specs.Deeds.{Seen}
-use Rattle.vd_model.specs.History.{needs_session, disk_of}
+use Rattle.vd_model.specs.History.{disk_of}
 use Rattle.vd_pool.specs.Memory.{PoolMemory as Pool}
 use Rattle.vd_control_path.specs.Ends.{ends_of}
 use Rattle.vd_control_path.proofs.Parts.{all_of}
@@ -30,7 +30,6 @@ use Rattle.blk_daemon.specs.Executed.{IsDisk}
 use Rattle.vd_daemon_lines.specs.Stands.{DaemonStands}
 use Rattle.vd_daemon_lines.specs.Disk.{AfterDisk, GoesOn, is_execution, stored_over}
 use Rattle.vd_instance.specs.declared.instance.Instance.{Instance}
-use Rattle.vd_instance.specs.declared.daemons.HeldDaemon.{HeldDaemon}
 use Rattle.vd_instance.specs.Image.{IsWindow, window_or_none}
 use Rattle.vd_instance.specs.Stands.{Stands, StandsForMore, After}
 use Rattle.vd_instance.proofs.Deeds.{both_of}

@@ -1,5 +1,5 @@
 -- What acts leave of the block daemons that are kept of queues.
-use Rattle.std.proofs.Common.{◌≡◌, ℕ, suc, ◌≤◌, ◌<◌, arith, Bool, true, false, refl, ap, sym, subst, ◌∙◌, not, List, [], ◌∷◌, ◌++◌, length, set, Option, Some, None, true≢false, ◌==◌, if◌then◌else◌, inl, inr, replicate}
+use Rattle.std.proofs.Common.{◌≡◌, ℕ, suc, ◌≤◌, ◌<◌, arith, Bool, true, false, refl, ap, sym, subst, ◌∙◌, not, List, [], ◌∷◌, ◌++◌, Some, true≢false, ◌==◌, if◌then◌else◌, inl, inr, replicate}
 use Rattle.std.specs.Prelude.{◌&&◌, slice_get}
 use Rattle.std.specs.List.{list_all}
 use Rattle.std.proofs.lemmas.Bool.Decides.{eqb_tells}
@@ -11,7 +11,6 @@ use Rattle.vd_model.specs.Queues.{ends_position}
 use Rattle.vd_queue_sides.specs.Daemon.{is_daemon_act}
 use Rattle.vd_control_path.specs.Ends.{ends_of}
 use Rattle.vd_control_path.proofs.EndLemmas.{counted_end, no_end}
-use Rattle.vd_control_path.proofs.Parts.{all_of}
 use Rattle.blk_daemon.specs.Held.{Held, idle}
 use Rattle.vd_daemon_lines.specs.Stands.{DaemonStands}
 use Rattle.vd_daemon_lines.proofs.Leaving.{daemon_stays, daemon_ends, daemon_begins}

@@ -1,5 +1,5 @@
 -- A ring that is made has a region of its own.
-use Rattle.std.proofs.Common.{◌≡◌, ℕ, ◌<◌, Bool, true, false, refl, ap, sym, subst, ◌∙◌, arith, not, List, [], ◌∷◌, ◌++◌, Option, Some, None, true≢false, ◌==◌, if◌then◌else◌, inl, inr}
+use Rattle.std.proofs.Common.{◌≡◌, ℕ, ◌<◌, Bool, true, false, ap, sym, subst, ◌∙◌, arith, not, List, [], ◌∷◌, Option, Some, None, true≢false, ◌==◌, if◌then◌else◌, inl, inr}
 use Rattle.std.specs.Prelude.{◌&&◌, is_some}
 use Rattle.std.specs.Option.{option_map_or}
 use Rattle.std.proofs.lemmas.Bool.Decides.{eqb_tells}

@@ -1,6 +1,6 @@
 -- A device after a line of the block daemon on a queue.
-use Rattle.std.proofs.Common.{◌≡◌, ℕ, ◌<◌, ◌≤◌, true, false, refl, ap, sym, subst, ◌∙◌, List, [], ◌∷◌, ◌++◌, length, set, not, nat_lt, vec_len, arith, Option, Some, None, Result, Ok, Err, true≢false, inl, inr, Bool, if◌then◌else◌}
-use Rattle.std.specs.Prelude.{slice_get, slice_index_or, All, ◌||◌, ◌==◌}
+use Rattle.std.proofs.Common.{◌≡◌, ℕ, ◌<◌, ◌≤◌, true, false, refl, ap, sym, subst, ◌∙◌, List, [], ◌++◌, length, set, not, nat_lt, vec_len, arith, Some, None, Result, Ok, Err, true≢false, inl, inr, Bool, if◌then◌else◌}
+use Rattle.std.specs.Prelude.{slice_get, slice_index_or, ◌||◌, ◌==◌}
 use Rattle.std.proofs.lemmas.Bool.{cases_lt}
 use Rattle.std.proofs.lemmas.Bool.Decides.{nat_tests, eqb_tells}
 use Rattle.std.proofs.lemmas.List.{get_or-set_same, get_or-set_other, length-set}
@@ -15,7 +15,7 @@ use Rattle.vd_model.specs.DaemonTurns.{is_idle, queue_place}
 use Rattle.vd_model.specs.Turn.{Turn, refuse, refusal_if, refusal_turn}
 use Rattle.vd_num.specs.declared.errno.Errno.TheVariants.{Inval}
 use Rattle.vd_model.specs.BusTurns.{is_missing}
-use Rattle.vd_answers.specs.Tells.{Tells, MayTell}
+use Rattle.vd_answers.specs.Tells.{MayTell}
 use Rattle.vd_control_path.specs.Ends.{ends_of}
 use Rattle.vd_device.specs.declared.device.Device.{Device}
 use Rattle.vd_device.specs.Stands as device

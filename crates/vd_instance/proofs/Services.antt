@@ -1,25 +1,13 @@
 -- The acts of the block daemon's lines on a queue: its puts, the steps of a request, and bytes of the disk.
-use Rattle.std.proofs.Common.{◌≡◌, ℕ, Bool, true, false, refl, ap, sym, subst, ◌∙◌, not, nat_lt, List, [], ◌∷◌, ◌++◌, length, take, drop, Option, Some, None, Result, Ok, Err, true≢false, ◌==◌, if◌then◌else◌, inl, inr, ◌+◌}
-use Rattle.std.specs.Prelude.{◌&&◌, ◌||◌, is_some, All}
-use Rattle.std.specs.List.{list_all, list_any}
-use Rattle.std.specs.Option.{option_map_or}
+use Rattle.std.proofs.Common.{◌≡◌, ℕ, Bool, true, false, refl, ap, sym, subst, ◌∙◌, not, List, [], ◌∷◌, ◌++◌, Option, Some, None, true≢false, ◌==◌, inl, inr, ◌+◌}
+use Rattle.std.specs.Prelude.{All}
+use Rattle.std.specs.List.{list_all}
 use Rattle.std.proofs.lemmas.Bool.Decides.{eqb_tells}
-use Rattle.vd_num.specs.declared.errno.Errno.{Errno}
-use Rattle.vd_num.specs.declared.errno.Errno.TheVariants.{Noent, Again, Busy, Inval}
-use Rattle.vd_model.specs.declared.answer.Answer.{Answer}
 use Rattle.vd_model.specs.declared.answer.Answer.TheVariants as answer
-use Rattle.vd_model.specs.declared.parts.Part.{Part}
-use Rattle.vd_model.specs.declared.parts.Chain.{Chain}
-use Rattle.vd_model.specs.declared.queue.RingPlace.{RingPlace}
 use Rattle.vd_model.specs.Setting.{Setting}
-use Rattle.vd_model.specs.Creation.{Creation}
 use Rattle.vd_model.specs.Acts.{Act, NodeAct, QueueAct, DiskAct, Node, Driver, Bus, Message_act, State, Queue, Disk_act, Daemon_put, Opened, Closed, Area_made, Area_put, Config_put, Registered, Deregistered, Ring_made, Ring_dropped, Chain_added, Chains_published, Chain_reclaimed, Fetched, Executed, Finished, state_acts}
-use Rattle.vd_model.specs.Turn.{Turn, refuse, refusal_if, refusal_turn, done_with}
-use Rattle.vd_model.specs.Memory.{Memory, read}
-use Rattle.vd_model.specs.BusTurns.{is_missing}
-use Rattle.vd_model.specs.Trace.{Ending, whole, faulty, missing, ending_of, trace_start}
 use Rattle.vd_model.specs.Block as block
-use Rattle.vd_model.specs.Queues.{Execution, ring_of, in_hand, execution_of, fetches}
+use Rattle.vd_model.specs.Queues.{ring_of}
 use Rattle.vd_model.specs.Live.{live_mappings}
 use Rattle.vd_pool.specs.Memory.{PoolMemory as Pool}
 use Rattle.vd_state.specs.Stands.{generation_of}
@@ -40,8 +28,6 @@ use Rattle.vd_ring_lines.specs.declared.held.HeldRing.{HeldRing}
 use Rattle.vd_ring_lines.specs.Stands.{leaves_ring}
 use Rattle.vd_instance.proofs.Deeds.{both_of, other}
 use Rattle.vd_instance.proofs.Holding.{leaves_daemon}
-use Rattle.vd_model.specs.Rings.{minus16, next16, number16, available_index_at, available_slot_at, available_event_at, used_element_at, used_index_at}
-use Rattle.vd_model.specs.DaemonTurns.{Hand, chain_or, read_or, request_or, event_or, ahead_or, event_puts, fetch_chain, fetch_at, fetch_from, fetched_turn, fetch_turn, is_idle, first_used, index_after, queue_place, daemon_memory, has_event_idx, has_indirect, readable_bytes, hand, store_acts, executed_turn, execute_hand, execute_turn, unwritable_or, spread_acts, deciding_field, finish_puts, finished_turn, finish_hand, used_position, finish_turn, wants_interrupt}
 
 no : {X : Type 0} → false ≡ true → X
 no e = absurd (true≢false (sym e))

@@ -1,7 +1,6 @@
 -- Failures of later lines change nothing of the lines before.
-use Rattle.std.proofs.Common.{◌≡◌, ℕ, suc, ◌+◌, ◌<◌, ◌≤◌, refl, ap, subst, sym, ◌∙◌, arith, Bool, Option, Some, List, [], ◌∷◌, ◌++◌, length, take, append_assoc, append-nil}
+use Rattle.std.proofs.Common.{◌≡◌, ℕ, suc, ◌+◌, ◌<◌, ◌≤◌, refl, ap, subst, sym, ◌∙◌, arith, Bool, Option, List, [], ◌∷◌, ◌++◌, length, take, append_assoc, append-nil}
 use Rattle.std.proofs.lemmas.List.{length-take-le}
-use Rattle.vd_model.specs.declared.step.Step.{Step}
 use Rattle.vd_model.specs.Setting.{Setting}
 use Rattle.vd_model.specs.History.{History}
 use Rattle.vd_output.specs.Served.{served_reading}

@@ -1,12 +1,10 @@
 -- A line that was answered.
 use Rattle.std.specs.Prelude.{OnOk, OnErr, IfErr, MatchResult}
-use Rattle.std.proofs.Common.{Result, Ok, Err, ◌≡◌, ℕ, ◌+◌, ◌≤◌, refl, ap, subst, sym, ◌∙◌, arith, Bool, true, false, Option, None, Some, List, [], ◌∷◌, ◌++◌, length, append-nil, true≢false, ◌⊎◌, inl, inr, if◌then◌else◌}
+use Rattle.std.proofs.Common.{Result, Ok, Err, ◌≡◌, ℕ, ◌+◌, ◌≤◌, refl, ap, subst, sym, ◌∙◌, arith, Bool, true, false, Option, None, Some, List, [], ◌∷◌, append-nil, true≢false, ◌⊎◌, inl, inr, if◌then◌else◌}
 use Rattle.vd_model.specs.declared.step.Step.{Step}
 use Rattle.vd_model.specs.Setting.{Setting}
 use Rattle.vd_model.specs.History.{History, deeds_of, reply}
 use Rattle.vd_model.specs.Replies.{reply_line}
-use Rattle.vd_output.specs.Out.{later_of, reply_to}
-use Rattle.vd_engine.specs.declared.engine.Engine.{Engine}
 use Rattle.vd_engine.specs.Machine.{StandsFor}
 use Rattle.vd_engine.specs.Image.{IsImage}
 use Rattle.vd_engine.specs.Frugal.{is_execution}
@@ -17,10 +15,10 @@ use Rattle.vd_top.specs.declared.progress.Stop.{Stop}
 use Rattle.vd_top.specs.declared.progress.Stop.TheVariants.{End, SourceFailed, SinkFailed, Memory, BadLine, TooLong}
 use Rattle.vd_engine.specs.Flushes.{is_flush_step, flushes}
 use Rattle.vd_io.specs.Told.{Rose}
-use Rattle.vd_top.specs.Executes.{asks_execution, failed_more, RoseBy}
+use Rattle.vd_top.specs.Executes.{failed_more, RoseBy}
 use Rattle.vd_top.specs.Pictures.{Shown, HoldsRun}
 use Rattle.vd_top.specs.Replies.{Replies, IsReplyAdded, Flushed}
-use Rattle.vd_top.specs.Played.{Replied, Carried, Answered, Untold, Unchanged, IsHindered, StoppedBy}
+use Rattle.vd_top.specs.Played.{Carried, Answered, Untold, Unchanged, IsHindered, StoppedBy}
 use Rattle.vd_top.proofs.Plays.{flushed_same}
 
 -- a step more of a run that the image holds

@@ -1,5 +1,5 @@
 -- How a run ends once the last replies are written.
-use Rattle.std.proofs.Common.{◌≡◌, ◌≢◌, ℕ, ◌+◌, ◌≤◌, refl, ap, subst, sym, ◌∙◌, arith, Option, List, [], ◌++◌, length, take, length-append, ◌⊎◌, inl, inr, true}
+use Rattle.std.proofs.Common.{◌≡◌, ◌≢◌, ℕ, ◌+◌, ◌≤◌, refl, ap, subst, sym, ◌∙◌, arith, Option, List, [], length, take, length-append, ◌⊎◌, inl, inr, true}
 use Rattle.std.proofs.Math.Seq.{take-append_seam}
 use Rattle.std.proofs.lemmas.Bool.Decides.{nat_tests, eqb_tells, leb_tells}
 use Rattle.vd_model.specs.Setting.{Setting}
@@ -14,7 +14,7 @@ use Rattle.vd_top.specs.declared.progress.Stop.{Stop}
 use Rattle.vd_top.specs.declared.progress.Stop.TheVariants.{End, SourceFailed, SinkFailed, Memory, BadLine, TooLong}
 use Rattle.vd_top.specs.Executes.{AreFailures, AreUpTo}
 use Rattle.vd_top.specs.Pictures.{Shown, ImageAt}
-use Rattle.vd_top.specs.Replies.{Replies, Cut}
+use Rattle.vd_top.specs.Replies.{Cut}
 use Rattle.vd_top.specs.Written.{Appended, AppendedLines, StopsBy, WritesBy, stop_of_status, is_status}
 use Rattle.vd_top.specs.Played.{IsSetting, Played, PlayedTo, PlayedCut, line_of, most_of, status_of}
 use Rattle.vd_top.proofs.Waits.{all_written, lines_of}

@@ -1,12 +1,11 @@
 -- The numbers of the lines at which the image failed, and what a later one doesn't change.
 use Rattle.std.proofs.Common.{◌≡◌, ◌≢◌, ℕ, zero, suc, ◌+◌, ◌<◌, ◌≤◌, Bool, true, false, ◌||◌, refl, ap, subst, sym, ◌∙◌, arith, Option, None, Some, List, [], ◌∷◌, ◌++◌, length, length-append, true≢false, ◌⊎◌, inl, inr, ◌==◌}
-use Rattle.std.specs.Prelude.{slice_get, min, ◌-◌, ◌^◌}
-use Rattle.std.specs.List.{list_any}
+use Rattle.std.specs.Prelude.{slice_get, ◌-◌}
 use Rattle.std.specs.Option.{option_map_or}
 use Rattle.std.proofs.lemmas.Bool.{or_left}
 use Rattle.std.proofs.lemmas.Bool.Decides.{eqb_tells}
 use Rattle.std.proofs.lemmas.List.Folds.{list_any-append}
-use Rattle.std.proofs.lemmas.Option.{slice_get_past, slice_get_within}
+use Rattle.std.proofs.lemmas.Option.{slice_get_within}
 use Rattle.vd_io.specs.Told.{Rose}
 use Rattle.vd_output.specs.Out.{good_lines, has_failed}
 use Rattle.vd_top.specs.Executes.{is_execute_line, any_executes, executes, is_execute_at, AreFailures, AreUpTo, failed_more, RoseBy}

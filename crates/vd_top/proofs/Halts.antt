@@ -1,5 +1,5 @@
 -- Where a run stops.
-use Rattle.std.proofs.Common.{◌≡◌, ℕ, ◌+◌, ◌<◌, ◌≤◌, refl, ap, subst, sym, ◌∙◌, arith, Bool, true, false, Option, None, List, [], ◌∷◌, ◌++◌, length, take, length-append, append_assoc, append-nil, ◌⊎◌, inl, inr}
+use Rattle.std.proofs.Common.{◌≡◌, ℕ, ◌+◌, ◌≤◌, refl, ap, subst, sym, ◌∙◌, arith, true, false, Option, List, [], ◌∷◌, ◌++◌, length, take, length-append, append_assoc, append-nil, inl, inr}
 use Rattle.std.specs.List.{list_all, take_while}
 use Rattle.std.proofs.lemmas.List.{take-append-le}
 use Rattle.std.proofs.lemmas.Bool.Decides.{leb_tells}
@@ -17,10 +17,9 @@ use Rattle.vd_top.specs.declared.player.Player.{Player}
 use Rattle.vd_top.specs.declared.progress.Stop.{Stop}
 use Rattle.vd_top.specs.declared.progress.Stop.TheVariants.{End, SourceFailed, SinkFailed, Memory, BadLine, TooLong}
 use Rattle.vd_top.specs.Executes.{is_execute_line, executes, AreFailures, AreUpTo}
-use Rattle.vd_top.specs.Pictures.{Shown, HoldsRun, Holds, HoldsFrom, ImageAt}
-use Rattle.vd_top.specs.Replies.{Replies, Cut, Flushed, line_at}
-use Rattle.vd_top.specs.Written.{AppendedCut}
-use Rattle.vd_top.specs.Played.{Answered, Carried, Untold, Unchanged, StoppedBy, StopsAt, IsSetting, IsLast, Waits, Played, PlayedTo, PlayedCut, most_of}
+use Rattle.vd_top.specs.Pictures.{Shown, HoldsRun, Holds, ImageAt}
+use Rattle.vd_top.specs.Replies.{Replies, Cut, Flushed}
+use Rattle.vd_top.specs.Played.{Answered, Untold, Unchanged, StoppedBy, StopsAt, Waits, Played, PlayedTo, PlayedCut, most_of}
 use Rattle.vd_top.proofs.Failures.{failures_in}
 use Rattle.vd_top.proofs.Agree.{waits_agrees}
 use Rattle.vd_top.proofs.Waits.{waits_flushed, cut_of}

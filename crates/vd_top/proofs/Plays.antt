@@ -1,6 +1,6 @@
 -- A script, line after line.
-use Rattle.std.proofs.Common.{◌≡◌, ◌≢◌, ℕ, ◌+◌, ◌<◌, ◌≤◌, Bool, true, false, refl, ap, subst, sym, ◌∙◌, arith, Option, None, Some, cond, nat_le, ◌&&◌, is_some, List, [], ◌∷◌, ◌++◌, length, take, length-append, append_assoc, append-nil, true≢false, ◌⊎◌, inl, inr}
-use Rattle.std.proofs.Math.Seq.{take-length, take-append_seam}
+use Rattle.std.proofs.Common.{◌≡◌, ◌≢◌, ℕ, ◌+◌, ◌<◌, ◌≤◌, Bool, true, false, refl, ap, subst, sym, ◌∙◌, arith, Option, None, Some, cond, nat_le, ◌&&◌, is_some, List, [], ◌∷◌, ◌++◌, length, take, length-append, true≢false, inl, inr}
+use Rattle.std.proofs.Math.Seq.{take-length}
 use Rattle.std.specs.List.{list_all, take_while}
 use Rattle.std.proofs.lemmas.List.{take-append-le}
 use Rattle.std.proofs.lemmas.List.Sums.{take_while-cons}
@@ -8,7 +8,7 @@ use Rattle.std.proofs.lemmas.List.Folds.{list_all-append}
 use Rattle.std.proofs.lemmas.Bool.Decides.{nat_tests, leb_tells}
 use Rattle.vd_model.specs.declared.step.Step.{Step}
 use Rattle.vd_model.specs.Setting.{Setting}
-use Rattle.vd_model.specs.History.{History, deeds_of}
+use Rattle.vd_model.specs.History.{deeds_of}
 use Rattle.vd_output.specs.Served.{served_reading}
 use Rattle.vd_output.specs.Out.{is_good, good_lines, script_lines, has_failed, later_of, reply_to, history_after}
 use Rattle.vd_engine.specs.declared.engine.Engine.{Engine}
@@ -20,7 +20,7 @@ use Rattle.vd_engine.specs.Flushes.{flushes}
 use Rattle.vd_top.specs.Pictures.{Shown, HoldsRun, Holds}
 use Rattle.vd_top.specs.Replies.{Replies, Flushed, line_at}
 use Rattle.vd_top.specs.Played.{Answered, Carried, IsSetting, IsLast, Waits}
-use Rattle.vd_top.proofs.Failures.{none_above, failed_here, failed_else, up_to_more, executes_by, failures_none, failures_in, failures_more}
+use Rattle.vd_top.proofs.Failures.{none_above, failed_here, failed_else, up_to_more, executes_by, failures_none, failures_more}
 use Rattle.vd_top.proofs.Agree.{Agree, history_agrees, holds_agrees, waits_agrees, history_none, history_more}
 use Rattle.vd_top.proofs.Waits.{appended_none, waits_first, waits_more, waits_flushed}
 

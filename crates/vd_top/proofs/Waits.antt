@@ -1,5 +1,5 @@
 -- The replies that were written, those that wait, and the line of each of their bytes.
-use Rattle.std.proofs.Common.{◌≡◌, Bool, ℕ, ◌+◌, ◌-◌, ◌<◌, ◌≤◌, refl, ap, subst, sym, ◌∙◌, arith, Option, None, Some, List, [], ◌∷◌, ◌++◌, length, take, drop, length-append, length-drop, take-add, append_assoc, append-nil, inl, inr}
+use Rattle.std.proofs.Common.{◌≡◌, Bool, ℕ, ◌+◌, ◌-◌, ◌<◌, ◌≤◌, ap, subst, sym, ◌∙◌, arith, Option, None, Some, List, [], ◌∷◌, ◌++◌, length, take, drop, length-append, length-drop, take-add, append_assoc, append-nil, inl, inr}
 use Rattle.std.proofs.Math.Seq.{take-length, take-append_seam, take-append-add}
 use Rattle.std.proofs.lemmas.List.{take-append-drop, take-append-le, length-take-le}
 use Rattle.std.proofs.lemmas.Bool.Decides.{leb_tells}

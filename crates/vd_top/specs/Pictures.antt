@@ -1,5 +1,5 @@
 -- Which lines' run the image holds.
-use Rattle.std.specs.Prelude.{ℕ, ◌+◌, ◌<◌, ◌≤◌, ◌≡◌, ◌⊎◌, List, [], take, length, Option}
+use Rattle.std.specs.Prelude.{ℕ, ◌+◌, ◌≤◌, ◌≡◌, ◌⊎◌, List, [], take, length, Option}
 use Rattle.vd_model.specs.Setting.{Setting}
 use Rattle.vd_model.specs.History.{History, deeds_of}
 use Rattle.vd_output.specs.Out.{good_lines, history_after}

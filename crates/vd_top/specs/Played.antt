@@ -1,16 +1,14 @@
 -- Where a run stands, and where it stopped, before the last replies are written.
-use Rattle.std.specs.Prelude.{ℕ, ◌+◌, ◌<◌, ◌≤◌, ◌≡◌, ◌⊎◌, List, [], ◌∷◌, ◌++◌, Option, Some, None, length, take, Bool, true, false, is_some}
-use Rattle.std.specs.List.{list_all}
+use Rattle.std.specs.Prelude.{ℕ, ◌+◌, ◌<◌, ◌≤◌, ◌≡◌, ◌⊎◌, List, [], ◌++◌, Option, Some, None, length, take, Bool, true, false, is_some}
 use Rattle.vd_model.specs.declared.step.Step.{Step}
 use Rattle.vd_model.specs.Setting.{Setting}
 use Rattle.vd_model.specs.History.{History, deeds_of}
-use Rattle.vd_output.specs.Out.{is_good, good_lines, stop_of, At_the_end, Not_in_grammar, Too_long, later_of, reply_to, history_after, output_from}
+use Rattle.vd_output.specs.Out.{good_lines, stop_of, At_the_end, Not_in_grammar, Too_long, later_of, reply_to, output_from}
 use Rattle.vd_lines.specs.IsAt.{IsTaken}
 use Rattle.vd_top.specs.declared.grammar.Line.{Line}
 use Rattle.vd_top.specs.declared.grammar.Line.TheVariants.{Bad, Nothing, Asks}
 use Rattle.vd_top.specs.declared.progress.Stop.{Stop}
 use Rattle.vd_top.specs.declared.progress.Stop.TheVariants.{End, SourceFailed, SinkFailed, Memory, BadLine, TooLong}
-use Rattle.vd_top.specs.declared.progress.Progress.{Progress}
 use Rattle.vd_top.specs.declared.player.Player.{Player}
 use Rattle.vd_engine.specs.declared.engine.Engine.{Engine}
 use Rattle.vd_engine.specs.Machine.{StandsFor}

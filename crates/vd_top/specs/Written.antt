@@ -1,5 +1,5 @@
 -- What a run read and wrote, where source and sink tell it.
-use Rattle.std.specs.Prelude.{ℕ, ◌+◌, ◌<◌, ◌≤◌, ◌≡◌, List, ◌++◌, Option, Some, None, length, take, Bool, true, ◌==◌, ◌||◌, ◌&&◌, nat_le, if◌then◌else◌, []}
+use Rattle.std.specs.Prelude.{ℕ, ◌+◌, ◌<◌, ◌≤◌, ◌≡◌, List, ◌++◌, Option, Some, None, length, take, Bool, ◌==◌, ◌||◌, ◌&&◌, nat_le, if◌then◌else◌, []}
 use Rattle.vd_model.specs.Setting.{Setting}
 use Rattle.vd_output.specs.Out.{good_lines, stop_of, At_the_end, Not_in_grammar, Too_long, output_from, script_output}
 use Rattle.vd_lines.specs.IsAt.{IsTaken}

@@ -1,4 +1,4 @@
-use Rattle.std.proofs.Common.{◌≡◌, ◌+◌, ◌≤◌, ap, subst, sym, ◌∙◌, length, Some, None, List, ℕ}
+use Rattle.std.proofs.Common.{◌≡◌, ap, subst, sym, ◌∙◌, Some, None, List, ℕ}
 use Rattle.std.specs.Prelude.{slice_set}
 use Rattle.std.specs.Option.{IfSome}
 use Rattle.std.proofs.lemmas.List.{set-set}

@@ -1,8 +1,4 @@
-use Rattle.std.proofs.Common.{◌≡◌, ◌++◌, List}
-use Rattle.vd_model.specs.Setting.{Setting}
-use Rattle.vd_model.specs.Acts.{Act}
-use Rattle.vd_memory_lines.specs.Stands.{Stands}
-use Rattle.vd_driver_port.proofs.Mapping.{Maps, mapped, unmoved, number, map_steps}
+use Rattle.vd_driver_port.proofs.Mapping.{mapped, unmoved, number, map_steps}
 use Rattle.vd_driver_port.proofs.Stepping.{told_same, reached_after}
 use Rattle.vd_driver_port.proofs.steps.map_all.Goals as goal
 

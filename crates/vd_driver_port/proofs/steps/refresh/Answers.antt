@@ -1,12 +1,9 @@
-use Rattle.std.proofs.Common.{◌≡◌, Some, None, subst, sym, ap, ◌∙◌, true, List}
+use Rattle.std.proofs.Common.{◌≡◌, Some, None, subst, sym, ◌∙◌}
 use Rattle.vd_model.specs.declared.memory.Want.{Want}
-use Rattle.vd_model.specs.Setting.{Setting}
-use Rattle.vd_model.specs.Acts.{Act, Streaming}
 use Rattle.vd_model.specs.Live.{buffer_len}
 use Rattle.vd_model.specs.Turn.{range_refusal}
 use Rattle.vd_domain.specs.Held.{mapping_of}
 use Rattle.vd_domain.specs.Handed.{IsOf}
-use Rattle.vd_memory_lines.specs.Stands.{Stands}
 use Rattle.vd_memory_lines.proofs.MappingLines.{info_live, mapping_allowed}
 use Rattle.vd_driver_port.proofs.Mapping.{done_of, sync_steps}
 use Rattle.vd_driver_port.proofs.Stepping.{told_same, reached_after, refreshed, live_is, info_of}

@@ -1,11 +1,9 @@
-use Rattle.std.proofs.Common.{◌≡◌, ◌+◌, ◌≤◌, ◌++◌, ap, subst, sym, ◌∙◌, true, length, Option, Some, None, List, [], ℕ}
+use Rattle.std.proofs.Common.{◌≡◌, ◌+◌, ◌≤◌, ap, subst, sym, ◌∙◌, true, length, Option, Some, List, [], ℕ}
 use Rattle.std.specs.Prelude.{is_some}
 use Rattle.std.proofs.Props.{props}
 use Rattle.std.proofs.Math.Logic.{∥∥₁_elim}
 use Rattle.vd_model.specs.declared.memory.Want.{Want}
-use Rattle.vd_model.specs.Acts.{Act}
 use Rattle.vd_buffers.specs.Places.{place_of}
-use Rattle.vd_memory_lines.specs.Stands.{Stands}
 use Rattle.vd_memory_lines.proofs.MappingLines.{info_live, room_of}
 use Rattle.vd_driver_port.proofs.Stepping.{told_same, reached_after, unmap_steps, unmap_done}
 use Rattle.vd_driver_port.proofs.steps.unmap.Goals as goal

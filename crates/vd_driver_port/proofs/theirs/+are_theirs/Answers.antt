@@ -1,11 +1,10 @@
-use Rattle.std.proofs.Common.{◌≡◌, refl, ap, sym, subst, ◌∙◌, Bool, true, false, true≢false, not, List, ◌∷◌, ℕ, take, drop}
+use Rattle.std.proofs.Common.{◌≡◌, refl, sym, subst, ◌∙◌, Bool, true, false, true≢false, not, List, ℕ}
 use Rattle.std.specs.Str.{bytes_eq}
 use Rattle.std.proofs.lemmas.Slice.Eq.{bytes_eq-Decides}
 use Rattle.std.specs.List.{All}
 use Rattle.std.proofs.lemmas.List.Elements.{All-cons}
 use Rattle.vd_model.specs.declared.memory.Want.{Want}
 use Rattle.vd_domain.specs.Handed.{AreOf}
-use Rattle.vd_model.specs.Puts.{ram_bytes}
 use Rattle.vd_driver_port.specs.Reached.{IsInBuffer}
 use Rattle.vd_driver_port.proofs.theirs.+are_theirs.Goals as goal
 

@@ -1,4 +1,4 @@
-use Rattle.std.proofs.Common.{List, ◌∷◌, ◌++◌, [], ap, ◌∙◌, replicate}
+use Rattle.std.proofs.Common.{List, ◌∷◌, ◌++◌, [], ap, ◌∙◌}
 use Rattle.std.proofs.lemmas.List.{replicate-append-replicate}
 use Rattle.blk_daemon.specs.Held.{Held, idle}
 use Rattle.vd_instance.specs.declared.daemons.HeldDaemon.{HeldDaemon}

@@ -1,4 +1,4 @@
-use Rattle.std.proofs.Common.{◌≡◌, ℕ, List, ◌≤◌, ◌+◌, ◌++◌, ◌∷◌, [], Ok, Err, Some, false, refl, ap, subst, sym, ◌∙◌, arith, length}
+use Rattle.std.proofs.Common.{◌≤◌, ◌+◌, ◌++◌, ◌∷◌, [], Ok, Err, refl, ap, subst, sym, ◌∙◌, arith, length}
 use Rattle.vd_lines.specs.Ahead.{Ahead}
 use Rattle.vd_lines.specs.IsAt.{IsNext, IsRead}
 use Rattle.vd_lines.proofs.Places.{at_first}

@@ -1,5 +1,4 @@
-use Rattle.std.proofs.Common.{◌≡◌, ◌∙◌, sym, refl, arith, [], Some, take}
-use Rattle.vd_model.specs.Setting.{Setting}
+use Rattle.std.proofs.Common.{◌≡◌, ◌∙◌, sym, arith, [], Some, take}
 use Rattle.vd_output.specs.Out.{good_lines, history_after}
 use Rattle.vd_laws.proofs.AllLaws.{all_laws}
 use Rattle.vd_transfer_laws.proofs.Transfers.{transfer_law}

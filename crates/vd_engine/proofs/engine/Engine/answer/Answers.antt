@@ -1,4 +1,4 @@
-use Rattle.std.proofs.Common.{subst, sym, ap, refl, ◌∙◌, ◌≡◌, ◌++◌, false}
+use Rattle.std.proofs.Common.{subst, sym, ap, ◌∙◌, ◌≡◌, ◌++◌, false}
 use Rattle.vd_model.specs.declared.step.Step.{Step}
 use Rattle.vd_model.specs.Deeds.{device_view, image_byte, acts_of_device}
 use Rattle.vd_model.specs.History.{outcome, device_outcome, device_turn, device_queue_turn}

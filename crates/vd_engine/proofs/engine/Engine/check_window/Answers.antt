@@ -1,5 +1,5 @@
-use Rattle.std.proofs.Common.{◌≡◌, ◌≤◌, ◌<◌, ◌+◌, subst, sym, ap, refl, ◌∙◌, arith, true, false}
-use Rattle.std.specs.Prelude.{find, is_some}
+use Rattle.std.proofs.Common.{subst, sym, ap, ◌∙◌, arith, true}
+use Rattle.std.specs.Prelude.{find}
 use Rattle.std.specs.List.{list_any}
 use Rattle.std.specs.Option.{option_map}
 use Rattle.vd_engine.specs.Machine.{FirstIs, NoneIs}

@@ -1,4 +1,4 @@
-use Rattle.std.proofs.Common.{true≢false, subst, sym, refl, ap, ◌≡◌, ◌+◌, ◌≤◌, ◌∙◌, ℕ, List, Some, false}
+use Rattle.std.proofs.Common.{true≢false, subst, sym, refl, ap, ◌≡◌, ◌+◌, ◌≤◌, ◌∙◌, List, Some, false}
 use Rattle.std.specs.Prelude.{find, IfOk}
 use Rattle.std.specs.Option.{option_map, option_map_or}
 use Rattle.std.specs.List.{slice_get}

@@ -1,4 +1,4 @@
-use Rattle.std.proofs.Common.{◌≡◌, ◌∙◌, sym, refl, None, Some}
+use Rattle.std.proofs.Common.{◌≡◌, ◌∙◌, sym, None, Some}
 use Rattle.vd_model.specs.History.{reply}
 use Rattle.vd_engine.specs.Does.{Goes}
 use Rattle.vd_engine.proofs.engine.Engine.step.Goals as goal

@@ -1,4 +1,4 @@
-use Rattle.std.proofs.Common.{Bool, ◌&&◌, true≢false, ℕ, List, [], refl, ap, sym, subst, ◌∙◌, ◌≡◌, true, false}
+use Rattle.std.proofs.Common.{◌&&◌, true≢false, [], refl, ap, sym, subst, ◌∙◌, ◌≡◌, true, false}
 use Rattle.std.proofs.lemmas.List.{get_or_read}
 use Rattle.std.specs.Option.{option_map}
 use Rattle.vd_model.specs.Acts.{state_acts}

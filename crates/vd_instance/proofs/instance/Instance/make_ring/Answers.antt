@@ -1,4 +1,4 @@
-use Rattle.std.proofs.Common.{◌≡◌, ℕ, ◌<◌, true, false, refl, ap, sym, subst, ◌∙◌, not, Some, None}
+use Rattle.std.proofs.Common.{false, refl, ap, sym, subst, ◌∙◌, not, None}
 use Rattle.std.proofs.lemmas.List.{get_or_read}
 use Rattle.vd_num.specs.declared.errno.Errno.TheVariants.{Nodev}
 use Rattle.vd_model.specs.Turn.{refuse, refusal_if}

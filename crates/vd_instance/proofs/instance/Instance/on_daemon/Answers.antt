@@ -3,7 +3,6 @@ use Rattle.std.proofs.lemmas.List.{get_or_read}
 use Rattle.vd_model.specs.Acts.{state_acts}
 use Rattle.vd_model.specs.State.{queue_info}
 use Rattle.vd_model.specs.BusTurns.{is_missing}
-use Rattle.vd_model.specs.DaemonTurns.{fetch_turn, finish_turn}
 use Rattle.vd_answers.proofs.Telling.{may_tell_as, tells_ok}
 use Rattle.vd_device.proofs.Turns.{session_open}
 use Rattle.vd_instance.specs.declared.daemons.HeldDaemon.{HeldDaemon}

@@ -1,4 +1,4 @@
-use Rattle.std.proofs.Common.{◌≡◌, ◌+◌, ◌∙◌, List, ℕ, true, false, true≢false, refl, ap, sym, subst, arith, [], Some, None, Ok, IfOk}
+use Rattle.std.proofs.Common.{◌≡◌, ◌+◌, ◌∙◌, true, false, true≢false, ap, sym, subst, arith, [], Some, None, Ok}
 use Rattle.std.specs.Option.{option_map}
 use Rattle.std.specs.declared.alloc.AllocError.{AllocError}
 use Rattle.vd_bounce.specs.Frames.{Keeps}
@@ -15,7 +15,6 @@ use Rattle.vd_model.specs.History.{queue_turn}
 use Rattle.vd_instance.specs.Flushes.{is_flush}
 use Rattle.vd_instance.proofs.Executes.{no_execute}
 use Rattle.vd_instance.proofs.Flushing.{no_flush}
-use Rattle.vd_io.specs.Told.{Rose}
 use Rattle.vd_instance.proofs.instance.Instance.queue_step.Goals as goal
 
 pub returns-in-Err-clause-line : goal.returns-in-Err-clause-line
