@@ -175,8 +175,16 @@ impl Engine {
         ensures err { (x : Setting) (h : History) → StandsFor x h self.old → OnErr result (StandsFor x h self.new) }
         ensures reached { IsReached self.new }
         ensures asked { OnOk result (self.new.asked ≡ self.old.asked + 1) }
+        ensures still_asked { OnErr result (self.new.asked ≡ self.old.asked) }
         ensures sectors { self.new.sectors ≡ self.old.sectors }
+
+        // Only an execute touches the image, and without memory nothing does.
+        ensures only_execute { is_execution step.now ≡ false → (disk.new ≡ disk.old) × IfOk result (λ s. s.disk_failed ≡ false) }
+        ensures kept { OnErr result (disk.new ≡ disk.old) }
         ensures size { I.size disk.new ≡ I.size disk.old }
+        ensures later { I.faults disk.old ≤ I.faults disk.new }
+        ensures cause { IfOk result (λ s. s.disk_failed ≡ true → Rose (I.faults disk.old) (I.faults disk.new)) }
+        ensures flushes { I.flushes disk.old ≤ I.flushes disk.new }
     {
         let mut kept = Kept::new(self.alloc)?;
         let disk_failed = self.play(disk, step, &mut kept)?;
