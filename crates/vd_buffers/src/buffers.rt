@@ -1,6 +1,6 @@
 //! Buffers by their numbers.
 
-ghost use Rattle.std.specs.Prelude.{◌≡◌, ◌+◌, ◌-◌, ◌<◌, ◌≤◌, ◌↔◌, ℕ, List, ◌∷◌, [], length, slice_index, if◌then◌else◌, Some, None, IsTrue, IfOk, OnErr, MatchResult, is_some, true, slice_set};
+ghost use Rattle.std.specs.Prelude.{◌≡◌, ◌+◌, ◌-◌, ◌<◌, ◌≤◌, ◌^◌, ◌↔◌, ℕ, List, ◌∷◌, [], length, take, slice_index, if◌then◌else◌, Some, None, IsTrue, IfOk, OnErr, MatchResult, is_some, true, slice_set};
 ghost use Rattle.vd_num.specs.Number.{is_within};
 ghost use Rattle.vd_model.specs.Acts.{Act, Driver, Buffer as BufferAct, Zeroed, Freed, Poked};
 ghost use Rattle.vd_model.specs.DriverTurns.{buffer_limit};
@@ -48,6 +48,14 @@ impl Buffers {
             places: Vec::new(alloc),
             total: 0,
         }
+    }
+
+    /// How many were made, freed ones among them: the number of the next one.
+    pub fn count(&self) -> u64
+        ensures count { result ≡ length self.now }
+        ensures few { result < 2 ^ 62 }
+    {
+        self.places.as_slice().len() as u64
     }
 
     /// Whether they may have so many bytes more.
@@ -134,6 +142,18 @@ impl Buffers {
         held.write(offset as usize, bytes);
         self.put(buffer, held);
         Ok(())
+    }
+
+    /// Takes the newest buffer back, as if it had never been made: its number is given out again.
+    pub fn take_back(&mut self)
+        requires { 0 < length self.old }
+        ensures { self.new ≡ take (length self.old - 1) self.old }
+    {
+        match self.places.pop() {
+            Some(Some(buffer)) => self.total -= buffer.as_slice().len() as u64,
+            Some(None) => {}
+            None => unreachable!(),
+        }
     }
 
     /// Lends the bytes of a buffer out: it isn't there until they are given back.

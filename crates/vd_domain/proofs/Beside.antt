@@ -34,7 +34,7 @@ bus_addressed g acts act = record {
   area = λ o. refl;
 }
 
-queue_addressed : (g : ℕ) (acts : List Act) (act : QueueAct) → IsAddressed g acts (Queue act)
+pub queue_addressed : (g : ℕ) (acts : List Act) (act : QueueAct) → IsAddressed g acts (Queue act)
 queue_addressed g acts act = record {
   iova = λ a here. ap (λ t. put_or (address_put_if t g (last_put g acts) acts (Queue act) a) (last_put g acts) (Iova a)) here;
   area = λ o. refl;

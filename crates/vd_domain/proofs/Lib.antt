@@ -25,5 +25,6 @@ pub mod Batches
 pub mod Shows
 pub mod Beside
 pub mod Seeing
+pub mod Apart
 pub mod Sessions
 pub mod Passed

@@ -9,4 +9,5 @@ pub mod Stands
 pub mod Placing
 pub mod Lookup
 pub mod Seen
+pub mod Apart
 pub mod Beside

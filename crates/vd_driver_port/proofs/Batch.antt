@@ -19,7 +19,8 @@ use Rattle.vd_buffers.proofs.Changed.{leaves_buffers}
 use Rattle.vd_memory_lines.specs.declared.memory.Memory.{Memory}
 use Rattle.vd_memory_lines.specs.Stands.{Stands, IsInside}
 use Rattle.vd_memory_lines.proofs.Parts.{stay_inside}
-use Rattle.vd_driver_port.specs.Reached.{IsInBuffer, AreApart}
+use Rattle.vd_domain.specs.Apart.{AreApart}
+use Rattle.vd_driver_port.specs.Reached.{IsInBuffer}
 use Rattle.vd_driver_port.proofs.Placed.{IsPlaced}
 use Rattle.vd_driver_port.proofs.Quiet.{mapped_quiet}
 

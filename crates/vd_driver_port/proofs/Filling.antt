@@ -20,7 +20,8 @@ use Rattle.vd_memory_lines.specs.declared.memory.Memory.{Memory}
 use Rattle.vd_memory_lines.specs.Stands.{Stands}
 use Rattle.vd_memory_lines.proofs.Parts.{stay_inside, buffers_act}
 use Rattle.blk_driver.specs.Buffers.{has_range}
-use Rattle.vd_driver_port.specs.Reached.{IsReached, AreApart}
+use Rattle.vd_domain.specs.Apart.{AreApart}
+use Rattle.vd_driver_port.specs.Reached.{IsReached}
 
 -- no bytes are put
 empty_put : (g : ℕ) (acts : List Act) (buffer offset k i : ℕ) → ram g (Driver (Poked buffer offset []) ∷ acts) k i ≡ ram g acts k i

@@ -27,7 +27,8 @@ use Rattle.vd_memory_lines.proofs.MappingLines.{fetches}
 use Rattle.vd_memory_lines.proofs.Parts.{stay_inside, domain_act}
 use Rattle.vd_ring_memory.proofs.Telling.{option_prop}
 use Rattle.blk_driver.specs.Buffers.{live_mapping}
-use Rattle.vd_driver_port.specs.Reached.{IsReached, AreApart}
+use Rattle.vd_domain.specs.Apart.{AreApart}
+use Rattle.vd_driver_port.specs.Reached.{IsReached}
 use Rattle.vd_driver_port.proofs.Quiet.{synced_quiet, unmapped_quiet}
 
 -- from the acts that it stood for to others, after which its rings have the same bytes

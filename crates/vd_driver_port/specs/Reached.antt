@@ -1,20 +1,14 @@
 -- What a driver's port knows of the memory that it lends.
 use Rattle.std.specs.Prelude.{ℕ, ◌≡◌, ◌+◌, ◌<◌, ◌≤◌, List, length, Some}
 use Rattle.std.specs.List.{All}
-use Rattle.vd_num.specs.Number.{pages_of}
 use Rattle.vd_pool.specs.Memory.{PoolMemory as Pool}
 use Rattle.vd_model.specs.declared.memory.Want.{Want}
 use Rattle.vd_model.specs.Setting.{Setting}
 use Rattle.vd_model.specs.Acts.{Act}
-use Rattle.vd_model.specs.Live.{live_mappings, live_regions}
+use Rattle.vd_domain.specs.Apart.{AreApart}
 use Rattle.vd_buffers.specs.Places.{Places, place_of}
 use Rattle.vd_memory_lines.specs.declared.memory.Memory.{Memory}
 use Rattle.vd_memory_lines.specs.Stands.{Stands}
-
--- live mappings lie in bounce memory, and live coherent regions behind it
-pub record AreApart (x : Setting) (acts : List Act) : Type 0 where
-  pub low : All (λ m. m.slot + pages_of m.want.len ≤ x.bounce) (live_mappings acts)
-  pub high : All (λ r. x.bounce ≤ r.slot) (live_regions acts)
 
 -- some acts are those that it stands for
 pub record IsReached (k : Memory) (m : Pool) : Type 0 where

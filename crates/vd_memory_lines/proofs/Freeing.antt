@@ -20,7 +20,7 @@ use Rattle.vd_memory_lines.specs.Stands.{Stands, IsInside}
 use Rattle.vd_memory_lines.proofs.Parts.{buffers_act}
 
 -- mappings of other buffers lie in theirs still
-free_inside : (acts : List Act) (buffer : ℕ) (ms : List Streaming) → list_any (λ (m : Streaming). m.want.buffer == buffer) ms ≡ false → All (IsInside acts) ms → All (IsInside (Driver (Freed buffer) ∷ acts)) ms
+pub free_inside : (acts : List Act) (buffer : ℕ) (ms : List Streaming) → list_any (λ (m : Streaming). m.want.buffer == buffer) ms ≡ false → All (IsInside acts) ms → All (IsInside (Driver (Freed buffer) ∷ acts)) ms
 free_inside acts buffer [] none all = All-nil (IsInside (Driver (Freed buffer) ∷ acts))
 free_inside acts buffer (m ∷ ms) none all = by (m.want.buffer == buffer) refl (λ rest. free_inside acts buffer ms rest (All-tail (IsInside acts) m ms all)) where
   by : (t : Bool) → (m.want.buffer == buffer) ≡ t → (list_any (λ (l : Streaming). l.want.buffer == buffer) ms ≡ false → All (IsInside (Driver (Freed buffer) ∷ acts)) ms) → All (IsInside (Driver (Freed buffer) ∷ acts)) (m ∷ ms)
