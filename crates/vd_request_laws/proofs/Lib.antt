@@ -1,0 +1,16 @@
+pub mod Lists
+pub mod QuietLines
+pub mod QuietQueues
+pub mod Standing
+pub mod Requests
+pub mod Pending
+pub mod Chains
+pub mod Ends
+pub mod Placed
+pub mod Submits
+pub mod Leaves
+pub mod Lines
+pub mod RingLines
+pub mod SubmitLines
+pub mod PollLines
+pub mod QueueLines
