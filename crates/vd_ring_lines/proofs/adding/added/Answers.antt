@@ -1,6 +1,0 @@
-use Rattle.vd_ring_lines.proofs.Chains.{refused_full}
-use Rattle.std.proofs.Common.{length}
-use Rattle.vd_ring_lines.proofs.adding.added.Goals as goal
-
-pub returns-clause-full : goal.returns-clause-full
-returns-clause-full c = refused_full c.add.result c.args.ring.now (length c.args.parts.now) c.requires.owners c.add.ensures.too_long c.add.ensures.full

@@ -1,8 +1,0 @@
-use Rattle.std.proofs.Common.{subst}
-use Rattle.vd_ring_lines.specs.Stands.{RingStands}
-use Rattle.vd_ring_lines.proofs.Turning.{not_missing}
-use Rattle.vd_ring_lines.proofs.polling.poll.Goals as goal
-
-pub returns-in-Some-clause-line : goal.returns-in-Some-clause-line
-returns-in-Some-clause-line g c = λ x made acts m q s r known.
-    c.poll_on.ensures.line x made acts m q s (subst (λ k. RingStands acts q k) c.in-Some.is r) (not_missing made acts q c.args.queue.now known c.if-is_none.ensures) known.events

@@ -1,0 +1,10 @@
+pub mod Leaving
+pub mod Lying
+pub mod Putting
+pub mod Moving
+pub mod Kicks
+pub mod Orders
+pub mod Chains
+pub mod Making
+pub mod RingSizes
+pub mod MadeRings
