@@ -35,12 +35,11 @@ use Rattle.vd_queue_sides.specs.Chains as sides
 use Rattle.vd_queue_sides.proofs.Daemons.{itself}
 use Rattle.vd_queue_sides.proofs.Adding.{ring_added}
 use Rattle.vd_queue_sides.proofs.FreeLemmas.{free_same}
-use Rattle.vd_ring_lines.proofs.Leaving.{lies_after}
-use Rattle.vd_ring_lines.proofs.Lying.{ring_reached, ends, no_span, coherent_reached, some_size}
-use Rattle.vd_ring_lines.proofs.Putting.{Shows, puts_stand}
-use Rattle.vd_ring_lines.proofs.Moving.{lies_as}
-use Rattle.vd_ring_lines.proofs.Chains.{first_is, first_taken, next_inside, in_descriptors, parts_put}
-use Rattle.vd_ring_lines.proofs.Adds.{added_to}
+use Rattle.vd_rings.proofs.Leaving.{lies_after}
+use Rattle.vd_rings.proofs.Lying.{ring_reached, ends, no_span, coherent_reached, some_size}
+use Rattle.vd_rings.proofs.Putting.{Shows, puts_stand}
+use Rattle.vd_rings.proofs.Moving.{lies_as}
+use Rattle.vd_rings.proofs.Chains.{first_is, first_taken, next_inside, in_descriptors, parts_put}
 use Rattle.blk_driver.specs.Driver as blk
 use Rattle.blk_driver.specs.declared.pending.Pending.{Pending}
 use Rattle.vd_request_lines.specs.declared.held.HeldDriver.{HeldDriver}
@@ -48,6 +47,7 @@ use Rattle.vd_request_lines.specs.Stands.{RequestsStand, ring_held, chain_at, Is
 use Rattle.vd_request_lines.specs.After.{After}
 use Rattle.vd_request_lines.proofs.Leaving.{requests_after_puts}
 use Rattle.vd_request_lines.proofs.Between.{memory_puts}
+use Rattle.vd_request_lines.proofs.Turning.{added_to}
 
 -- a chain without a request leaves the pending ones
 pending_more : (chains : List AddedChain) (chain : AddedChain) → chain.request ≡ None → (ps : List Pending) → ArePending chains ps → ArePending (chains ++ chain ∷ []) ps
@@ -59,7 +59,7 @@ pending_more (c ∷ cs) chain plain ps all = by c.request ps all (pending_more c
   by (Some r) (p ∷ ps) n rest = (n.0, n.1, rest ps n.2)
 
 -- a chain that is there is found before one more
-found_before : (chains : List AddedChain) (chain : AddedChain) (id : ℕ) → is_head chains id ≡ true → chain_at chains id ≡ chain_at (chains ++ chain ∷ []) id
+pub found_before : (chains : List AddedChain) (chain : AddedChain) (id : ℕ) → is_head chains id ≡ true → chain_at chains id ≡ chain_at (chains ++ chain ∷ []) id
 found_before [] chain id e = absurd (true≢false (sym e))
 found_before (c ∷ cs) chain id e = by (c.head == id) refl (found_before cs chain id) where
   by : (t : Bool) → (c.head == id) ≡ t → (is_head cs id ≡ true → chain_at cs id ≡ chain_at (cs ++ chain ∷ []) id) → (if c.head == id then Some c else chain_at cs id) ≡ (if c.head == id then Some c else chain_at (cs ++ chain ∷ []) id)

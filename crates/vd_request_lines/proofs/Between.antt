@@ -18,7 +18,7 @@ use Rattle.vd_ring_memory.specs.RingPuts.{after_puts, AreRingPuts, RingPutsAfter
 use Rattle.vd_ring_memory.specs.RingPutLemmas.{ring_puts_same}
 use Rattle.vd_ring_memory.proofs.RingTelling.{ring_after_puts}
 use Rattle.vd_ring_memory.proofs.Standing.{stands_as_rings}
-use Rattle.vd_ring_lines.proofs.Putting.{Shows}
+use Rattle.vd_rings.proofs.Putting.{Shows}
 use Rattle.vd_driver_port.proofs.Quiet.{unmapped_quiet}
 use Rattle.vd_request_lines.specs.Ended.{Ends}
 use Rattle.vd_request_lines.proofs.Under.{unmaps_same}

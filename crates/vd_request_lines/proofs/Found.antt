@@ -25,8 +25,8 @@ use Rattle.vd_ring_memory.proofs.RingTelling.{ring_reads}
 use Rattle.vd_queue_sides.specs.Chains.{chains_of, is_head, IsSide}
 use Rattle.vd_queue_sides.proofs.Chained.{element_same}
 use Rattle.vd_queue_sides.proofs.Waiting.{waiting_is, is_waiting_is}
-use Rattle.vd_ring_lines.proofs.Kicks.{number_is}
-use Rattle.vd_ring_lines.proofs.Chains.{whole_turns}
+use Rattle.vd_rings.proofs.Kicks.{number_is}
+use Rattle.vd_rings.proofs.Chains.{whole_turns}
 use Rattle.vd_request_lines.specs.Stands.{chain_at}
 
 found_none : (chains : List AddedChain) (id : ℕ) → is_head chains id ≡ false → chain_at chains id ≡ None

@@ -8,8 +8,8 @@ use Rattle.vd_model.specs.RingTurns.{unmap_act, unmap_acts, free_acts}
 use Rattle.vd_queue_sides.specs.Chains.{Chains, is_ring_act, is_head}
 use Rattle.vd_queue_sides.proofs.Leaving.{chains_after}
 use Rattle.vd_queue_sides.proofs.Drivers.{ring_after}
-use Rattle.vd_ring_lines.specs.Stands.{frees, leaves_ring}
-use Rattle.vd_ring_lines.proofs.Leaving.{lies_after}
+use Rattle.vd_rings.specs.Stands.{frees, leaves_ring}
+use Rattle.vd_rings.proofs.Leaving.{lies_after}
 use Rattle.vd_ring_memory.specs.RingPuts.{AreRingPuts}
 use Rattle.vd_ring_memory.specs.RingPutLemmas.{as_ring_put}
 use Rattle.vd_request_lines.specs.declared.held.HeldDriver.{HeldDriver}
@@ -34,8 +34,8 @@ requests_stay_after q act acts kept e s =
       pending = subst (λ (c : Chains). ArePending c.out (pending_held kept)) same s.pending;
       seen = subst (λ (c : Chains). (id : ℕ) → is_head c.seen id ≡ true → chain_at c.seen id ≡ chain_at c.out id) same s.seen;
     } where
-      by : (kept : Option HeldDriver) → frees (ring_in kept) act ≡ false → IfSome kept (λ held. Rattle.vd_ring_lines.specs.Stands.RingLies acts (ring_held held))
-          → IfSome kept (λ held. Rattle.vd_ring_lines.specs.Stands.RingLies (act ∷ acts) (ring_held held))
+      by : (kept : Option HeldDriver) → frees (ring_in kept) act ≡ false → IfSome kept (λ held. Rattle.vd_rings.specs.Stands.RingLies acts (ring_held held))
+          → IfSome kept (λ held. Rattle.vd_rings.specs.Stands.RingLies (act ∷ acts) (ring_held held))
       by None f l = tt
       by (Some held) f l = lies_after acts (ring_held held) act f l
 

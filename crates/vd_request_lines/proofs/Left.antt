@@ -68,7 +68,7 @@ none_of mappings number none m there = by (number == m.number) refl where
     | inr h ↦ h.0
   ]
 
-found_number : (number : ℕ) (ms : List Streaming) (m : Streaming) → find (λ m. m.number == number) ms ≡ Some m → m.number ≡ number
+pub found_number : (number : ℕ) (ms : List Streaming) (m : Streaming) → find (λ m. m.number == number) ms ≡ Some m → m.number ≡ number
 found_number number [] m e = absurd (no e) where
   no : None ≡ Some m → ⊥
   no e = cc

@@ -1,16 +1,19 @@
 -- The pending requests are found by the heads of their chains, and go with them.
 use Rattle.std.proofs.Common.{◌≡◌, ℕ, suc, ◌≤◌, Bool, true, false, ◌==◌, ◌||◌, if◌then◌else◌, refl, ap, sym, subst, ◌∙◌, arith, inl, inr, List, [], ◌∷◌, length, Some, None, Option, filter, true≢false}
-use Rattle.std.specs.Prelude.{find, not}
+use Rattle.std.specs.Prelude.{find, map, not}
 use Rattle.std.specs.List.{list_any}
-use Rattle.std.specs.Option.{option_map}
+use Rattle.std.specs.Option.{option_map, option_map_or}
 use Rattle.std.proofs.lemmas.Bool.Decides.{eqb_tells}
 use Rattle.vd_model.specs.Acts.{AddedChain, Request}
 use Rattle.vd_model.specs.Queues.{is_other_chain}
 use Rattle.vd_queue_sides.specs.Chains.{is_head, with_same_head}
 use Rattle.vd_queue_sides.proofs.Counting.{some_head}
+use Rattle.vd_queue_sides.proofs.Daemons.{itself}
 use Rattle.blk_driver.specs.Driver.{request_in, has_head, without_first}
 use Rattle.blk_driver.specs.declared.pending.Pending.{Pending}
 use Rattle.vd_request_lines.specs.Stands.{chain_at, IsNext, ArePending}
+use Rattle.vd_request_laws.specs.Owned.{requests_of}
+use Rattle.vd_request_lines.specs.Ending.{AreLone}
 
 some_same : {X : Type 0} {a b : X} → Some a ≡ Some b → a ≡ b
 some_same e = cc
@@ -50,7 +53,7 @@ others_all (c ∷ cs) id off =
     ap (λ t. if not t then c ∷ filter (is_other_chain id) cs else filter (is_other_chain id) cs) both.0 ∙ ap (λ l. c ∷ l) (others_all cs id both.1)
 
 -- no pending request has a head that no chain has
-none_pending : (chains : List AddedChain) (ps : List Pending) (id : ℕ) → is_head chains id ≡ false → ArePending chains ps → find (has_head id) ps ≡ None
+pub none_pending : (chains : List AddedChain) (ps : List Pending) (id : ℕ) → is_head chains id ≡ false → ArePending chains ps → find (has_head id) ps ≡ None
 none_pending [] ps id off all = ap (λ l. find (has_head id) l) all
 none_pending (c ∷ cs) ps id off all = by c.request ps all (λ ps. none_pending cs ps id (neither (c.head == id) (is_head cs id) off).1) where
   by : (r : Option Request) (ps : List Pending) → IsNext r c.head ps (ArePending cs) → ((ps : List Pending) → ArePending cs ps → find (has_head id) ps ≡ None) → find (has_head id) ps ≡ None
@@ -180,3 +183,24 @@ pending_any passes off (c ∷ cs) ps all = by c.request refl ps all (pending_any
   by (Some r) g (p ∷ ps) n rest =
       ap (λ r. passes r || list_any (λ (chain : AddedChain). passes chain.request) cs) (g ∙ ap Some (sym n.1))
       ∙ ap (λ t. passes (Some (request_in p)) || t) (rest ps n.2)
+
+-- ---- all of them
+
+-- no two pending requests have the same head, since no two chains have
+pub pending_lone : (chains : List AddedChain) (ps : List Pending) → ((id : ℕ) → length (with_same_head id chains) ≤ 1) → ArePending chains ps → AreLone ps
+pending_lone [] ps lone all = subst AreLone (sym all) tt
+pending_lone (c ∷ cs) ps lone all = by c.request ps all (λ ps. pending_lone cs ps (λ id. lone_later c cs id (lone id))) where
+  by : (r : Option Request) (ps : List Pending) → IsNext r c.head ps (ArePending cs) → ((ps : List Pending) → ArePending cs ps → AreLone ps) → AreLone ps
+  by None ps n rest = rest ps n
+  by (Some r) [] n rest = absurd n
+  by (Some r) (p ∷ ps) n rest = (none_pending cs ps p.head (lone_rest c cs p.head (lone p.head) (ap (λ k. c.head == k) n.0 ∙ itself c.head)) n.2, rest ps n.2)
+
+-- they are the requests of the chains
+pub requests_are : (chains : List AddedChain) (ps : List Pending) → ArePending chains ps → requests_of chains ≡ map request_in ps
+requests_are [] ps all = sym (ap (map request_in) all)
+requests_are (c ∷ cs) ps all = by c.request ps all (requests_are cs) where
+  by : (r : Option Request) (ps : List Pending) → IsNext r c.head ps (ArePending cs) → ((ps : List Pending) → ArePending cs ps → requests_of cs ≡ map request_in ps)
+      → option_map_or (λ r. r ∷ requests_of cs) r (requests_of cs) ≡ map request_in ps
+  by None ps n rest = rest ps n
+  by (Some r) [] n rest = absurd n
+  by (Some r) (p ∷ ps) n rest = ap (λ l. r ∷ l) (rest ps n.2) ∙ ap (λ r. r ∷ map request_in ps) (sym n.1)

@@ -1,13 +1,14 @@
 -- The line that takes back a used chain.
-use Rattle.std.proofs.Common.{◌≡◌, ℕ, ◌+◌, ◌*◌, ◌%◌, Bool, true, false, if◌then◌else◌, nat_lt, nat_le, ◌==◌, refl, ap, sym, subst, ◌∙◌, arith, List, [], ◌∷◌, ◌++◌, append_assoc, Some, None, filter, All, true≢false, inl, inr, ◌||◌}
+use Rattle.std.proofs.Common.{◌≡◌, ℕ, ◌+◌, ◌*◌, ◌%◌, Bool, true, false, if◌then◌else◌, nat_lt, nat_le, ◌==◌, refl, ap, sym, subst, ◌∙◌, arith, List, [], ◌∷◌, ◌++◌, append_assoc, Some, None, Option, filter, All, true≢false, inl, inr, ◌||◌}
 use Rattle.std.specs.Prelude.{IfSome}
-use Rattle.std.specs.Option.{option_map}
+use Rattle.std.specs.Option.{option_map, option_map_or}
+use Rattle.std.proofs.lemmas.List.Elements.{All-head, All-tail}
 use Rattle.std.proofs.lemmas.Bool.Decides.{nat_tests, eqb_tells}
 use Rattle.byteorder.specs.Endian.{little_bytes}
 use Rattle.vd_pool.specs.Memory.{PoolMemory as Pool}
 use Rattle.vd_model.specs.Memory.{written}
 use Rattle.vd_model.specs.Setting.{Setting}
-use Rattle.vd_model.specs.Acts.{Act, AddedChain, Driver, Driver_put, Queue, Chain_reclaimed}
+use Rattle.vd_model.specs.Acts.{Act, AddedChain, Request, Driver, Driver_put, Queue, Chain_reclaimed}
 use Rattle.vd_model.specs.Live.{live_mappings}
 use Rattle.vd_model.specs.Puts.{ram}
 use Rattle.vd_model.specs.Queues.{reclaimed_count, chains_out, published_chains_out, is_other_chain}
@@ -22,16 +23,16 @@ use Rattle.vr_split.specs.ReachLemmas.{used_event-reached}
 use Rattle.vr_driver.specs.Side.{is_waiting, without_chain}
 use Rattle.vd_ring_memory.specs.RingPuts.{after_puts, AreRingPuts}
 use Rattle.vd_ring_memory.specs.RingPutLemmas.{ring_puts_same}
-use Rattle.vd_queue_sides.specs.Chains.{chains_of, is_head, EachChain}
+use Rattle.vd_queue_sides.specs.Chains.{chains_of, is_head}
 use Rattle.vd_queue_sides.proofs.Daemons.{itself}
 use Rattle.vd_queue_sides.proofs.Chained.{index_bytes}
 use Rattle.vd_queue_sides.proofs.Reclaiming.{ring_reclaimed}
 use Rattle.vd_queue_sides.proofs.Waiting.{is_waiting_is}
-use Rattle.vd_ring_lines.proofs.Lying.{ring_reached, ends, no_span, coherent_reached, small_size}
-use Rattle.vd_ring_lines.proofs.Putting.{Shows}
-use Rattle.vd_ring_lines.proofs.Moving.{lies_as}
-use Rattle.vd_ring_lines.proofs.Leaving.{lies_after}
-use Rattle.vd_driver_port.specs.Reached.{AreApart}
+use Rattle.vd_rings.proofs.Lying.{ring_reached, ends, no_span, coherent_reached, small_size}
+use Rattle.vd_rings.proofs.Putting.{Shows}
+use Rattle.vd_rings.proofs.Moving.{lies_as}
+use Rattle.vd_rings.proofs.Leaving.{lies_after}
+use Rattle.vd_domain.specs.Apart.{AreApart}
 use Rattle.blk_driver.specs.Buffers.{has_range}
 use Rattle.blk_driver.specs.Driver.{request_in, made_in, maps_in, pending_of, has_head, without_first}
 use Rattle.blk_driver.specs.Driver as blk
@@ -39,7 +40,7 @@ use Rattle.blk_driver.specs.declared.driver.Polled.{Polled}
 use Rattle.blk_driver.specs.declared.pending.Pending.{Pending}
 use Rattle.vd_request_lines.specs.declared.held.HeldDriver.{HeldDriver}
 use Rattle.vd_request_lines.specs.Stands.{RequestsStand, ring_held, chain_at, ArePending}
-use Rattle.vd_request_lines.specs.Owned.{IsOwned, AreOwned}
+use Rattle.vd_request_laws.specs.Owned.{IsOwned, QueueOwned, requests_of}
 use Rattle.vd_request_lines.specs.After.{After}
 use Rattle.vd_request_lines.specs.Ended.{Ends, IsLeft}
 use Rattle.vd_request_lines.proofs.Pendings.{request_found, pending_left, seen_left}
@@ -69,17 +70,25 @@ chain_there (c ∷ cs) id e = elim (eqb_tells c.head id) [
 ]
 
 -- of a chain that is out, the request is its own
-owned_at : (acts : List Act) (chains : List AddedChain) (id : ℕ) (c : AddedChain) → EachChain (λ chain. IfSome chain.request (IsOwned acts)) chains → chain_at chains id ≡ Some c → IfSome c.request (IsOwned acts)
+pub each_next : (P : Request → Type 0) (chains : List AddedChain) (o : Option Request) → All P (option_map_or (λ r. r ∷ requests_of chains) o (requests_of chains)) → IfSome o P × All P (requests_of chains)
+each_next P chains None all = (tt, all)
+each_next P chains (Some r) all = (All-head P r (requests_of chains) all, All-tail P r (requests_of chains) all)
+
+owned_at : (acts : List Act) (chains : List AddedChain) (id : ℕ) (c : AddedChain) → All (IsOwned acts) (requests_of chains) → chain_at chains id ≡ Some c → IfSome c.request (IsOwned acts)
 owned_at acts [] id c all e = absurd (no e) where
   no : None ≡ Some c → ⊥
   no e = cc
-owned_at acts (d ∷ ds) id c all e = by (d.head == id) refl (owned_at acts ds id c all.1) where
+owned_at acts (d ∷ ds) id c all e = let next = each_next (IsOwned acts) ds d.request all in by next.0 (d.head == id) refl (owned_at acts ds id c next.1) where
   same : Some d ≡ Some c → d ≡ c
   same e = cc
 
-  by : (t : Bool) → (d.head == id) ≡ t → (chain_at ds id ≡ Some c → IfSome c.request (IsOwned acts)) → IfSome c.request (IsOwned acts)
-  by true f rest = subst (λ (c : AddedChain). IfSome c.request (IsOwned acts)) (same (sym (ap (λ t. if t then Some d else chain_at ds id) f) ∙ e)) all.0
-  by false f rest = rest (sym (ap (λ t. if t then Some d else chain_at ds id) f) ∙ e)
+  by : IfSome d.request (IsOwned acts) → (t : Bool) → (d.head == id) ≡ t → (chain_at ds id ≡ Some c → IfSome c.request (IsOwned acts)) → IfSome c.request (IsOwned acts)
+  by own true f rest = subst (λ (c : AddedChain). IfSome c.request (IsOwned acts)) (same (sym (ap (λ t. if t then Some d else chain_at ds id) f) ∙ e)) own
+  by own false f rest = rest (sym (ap (λ t. if t then Some d else chain_at ds id) f) ∙ e)
+
+-- the status byte of a request that is its own is there
+pub has_status : (acts : List Act) (r : Request) → IsOwned acts r → has_range acts r.buffer 16 1 ≡ true
+has_status acts r own = ap (λ o. option_map_or (λ size. nat_le (16 + 1) size) o false) own.front
 
 -- a test turned
 pub swapped : {X : Type 0} (a b : ℕ) (p r : X) → (if nat_le a b then p else r) ≡ (if nat_lt b a then r else p)
@@ -105,8 +114,8 @@ module _ (acts : List Act) (q : ℕ) (held : HeldDriver) (r : RequestsStand acts
   pub request : option_map request_in (pending_of held.driver p.head) ≡ its.chain.request
   request = request_found (chains_out acts q) held.driver.pending p.head its.chain (r.side.lone p.head) r.pending out_found
 
-  pub own_request : AreOwned acts q → (pd : Pending) → pending_of held.driver p.head ≡ Some pd → IsOwned acts (request_in pd)
-  own_request owned pd e = subst (λ o. IfSome o (IsOwned acts)) (sym request ∙ ap (option_map request_in) e) (owned_at acts (chains_out acts q) p.head its.chain owned out_found)
+  pub own_request : QueueOwned acts q → (pd : Pending) → pending_of held.driver p.head ≡ Some pd → IsOwned acts (request_in pd)
+  own_request owned pd e = subst (λ o. IfSome o (IsOwned acts)) (sym request ∙ ap (option_map request_in) e) (owned_at acts (chains_out acts q) p.head its.chain owned.each out_found)
 
 module _ (x : Setting) (acts : List Act) (m n : Pool) (q : ℕ) (h k : Memory) (held : HeldDriver) (s : Stands x acts h m) (r : RequestsStand acts q (Some held))
     (before : Shows h.domain) (later : Shows k.domain) where
@@ -163,7 +172,7 @@ module _ (x : Setting) (acts : List Act) (m n : Pool) (q : ℕ) (h k : Memory) (
     requests = subst (λ (t : blk.Driver). RequestsStand acts q (Some (record held { driver = t }))) (sym f) r;
   }
 
-  module _ (apart : AreApart x acts) (owned : AreOwned acts q) (flag : Bool) (p : Polled) (waits : is_waiting held.driver.ring p.head ≡ true)
+  module _ (apart : AreApart x acts) (owned : QueueOwned acts q) (flag : Bool) (p : Polled) (waits : is_waiting held.driver.ring p.head ≡ true)
       (told : ring_map k.domain ≡ (if flag then written (ring_map h.domain) (used_event_at held.driver.ring.place) (little_bytes 2 (next16 held.driver.ring.reclaimed)) else ring_map h.domain)) where
     -- the acts of the driver's step
     abbrev done : List Act
@@ -195,7 +204,7 @@ module _ (x : Setting) (acts : List Act) (m n : Pool) (q : ℕ) (h k : Memory) (
       there =
           unmaps_same (λ l. has_range l pd.buffer 16 1) (λ m done. refl) (live_mappings acts) (maps_in pd) (done ++ acts)
           ∙ ring_puts_same (λ l. has_range l pd.buffer 16 1) (λ at bytes done. refl) acts (puts flag) acts (only flag)
-          ∙ own.status
+          ∙ has_status acts (request_in pd) own
 
       -- the status byte that is read is the turn's
       pub status_is : (status : ℕ) → ((g : ℕ) (acts : List Act) → kept_buffers.Stands g acts k.buffers → has_range acts pd.buffer 16 1 ≡ true → status ≡ ram g acts pd.buffer 16)

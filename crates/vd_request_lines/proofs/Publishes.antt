@@ -33,11 +33,11 @@ use Rattle.vd_queue_sides.specs.Chains.{is_head}
 use Rattle.vd_queue_sides.proofs.Daemons.{itself}
 use Rattle.vd_queue_sides.proofs.Drivers.{ring_published}
 use Rattle.vd_queue_sides.proofs.Chained.{index_put}
-use Rattle.vd_ring_lines.proofs.Leaving.{lies_after}
-use Rattle.vd_ring_lines.proofs.Lying.{laid, ring_reached, ends, no_span, coherent_reached, small_size}
-use Rattle.vd_ring_lines.proofs.Putting.{Shows, puts_stand}
-use Rattle.vd_ring_lines.proofs.Moving.{lies_as}
-use Rattle.vd_ring_lines.proofs.Kicks.{one_if, kick_is}
+use Rattle.vd_rings.proofs.Leaving.{lies_after}
+use Rattle.vd_rings.proofs.Lying.{laid, ring_reached, ends, no_span, coherent_reached, small_size}
+use Rattle.vd_rings.proofs.Putting.{Shows, puts_stand}
+use Rattle.vd_rings.proofs.Moving.{lies_as}
+use Rattle.vd_rings.proofs.Kicks.{one_if, kick_is}
 use Rattle.blk_driver.specs.Driver as blk
 use Rattle.vd_request_lines.specs.declared.held.HeldDriver.{HeldDriver}
 use Rattle.vd_request_lines.specs.Stands.{RequestsStand, ring_held, chain_at}

@@ -1,8 +1,6 @@
 -- What a poll tells is the answer of its turn.
-use Rattle.std.proofs.Common.{◌≡◌, ℕ, ◌+◌, ◌<◌, ◌≤◌, ◌^◌, Bool, true, false, if◌then◌else◌, nat_le, refl, ap, sym, subst, ◌∙◌, List, [], ◌∷◌, ◌++◌, Some, None, Option, Result, Ok, Err}
+use Rattle.std.proofs.Common.{◌≡◌, ℕ, ◌+◌, ◌<◌, ◌^◌, arith, Bool, true, false, if◌then◌else◌, nat_le, refl, ap, sym, subst, ◌∙◌, List, [], ◌∷◌, ◌++◌, Some, None, Option, Result, Ok, Err}
 use Rattle.std.specs.Prelude.{IfOk, IfSome}
-use Rattle.std.specs.List.{All}
-use Rattle.vd_num.specs.Number.{pages_of}
 use Rattle.std.specs.Option.{option_map, option_map_or}
 use Rattle.byteorder.specs.Endian.{little_bytes}
 use Rattle.vd_num.specs.declared.errno.Errno.TheVariants.{Inval, Noent}
@@ -15,8 +13,8 @@ use Rattle.vd_model.specs.declared.answer.Tag.TheVariants as tag
 use Rattle.vd_model.specs.Memory.{written}
 use Rattle.vd_model.specs.Setting.{Setting}
 use Rattle.vd_model.specs.Creation.{Creation}
-use Rattle.vd_model.specs.Acts.{Act, AddedChain, Streaming, Coherent, Queue, Chain_reclaimed}
-use Rattle.vd_model.specs.Live.{live_mappings, live_regions}
+use Rattle.vd_model.specs.Acts.{Act, AddedChain, Queue, Chain_reclaimed}
+use Rattle.vd_model.specs.Live.{buffers, live_mappings}
 use Rattle.vd_model.specs.Puts.{ram}
 use Rattle.vd_model.specs.Queues.{Ring, ring_of, reclaimed_count}
 use Rattle.vd_model.specs.Rings.{next16, used_index_at, used_element_at, used_event_at}
@@ -26,9 +24,7 @@ use Rattle.vd_model.specs.DaemonTurns.{has_event_idx}
 use Rattle.vd_model.specs.Turn.{Turn, refuse, refusal_if, refusal_turn}
 use Rattle.vd_answers.specs.Tells.{Tells}
 use Rattle.vd_answers.proofs.Telling.{tells_by, tells_as}
-use Rattle.vd_domain.specs.Held.{Held}
 use Rattle.vd_domain.specs.Seen.{ring_map}
-use Rattle.vd_domain.specs.Stands as domain
 use Rattle.vd_buffers.specs.Stands as kept_buffers
 use Rattle.vd_memory_lines.specs.declared.memory.Memory.{Memory}
 use Rattle.vd_memory_lines.specs.Stands.{Stands}
@@ -37,9 +33,9 @@ use Rattle.vr_driver.specs.Side.{is_waiting}
 use Rattle.vr_driver.specs.Driver.{next_completion, with_answer}
 use Rattle.vr_driver.specs.declared.completion.UsedError.{UsedError}
 use Rattle.vr_driver.specs.declared.completion.UsedError.TheVariants.{BadId, TooFarAhead}
-use Rattle.vd_ring_lines.proofs.Lying.{ring_reached, ends, no_span, coherent_reached, small_size, some_size}
-use Rattle.vd_ring_lines.proofs.Putting.{Shows}
-use Rattle.vd_driver_port.specs.Reached.{AreApart}
+use Rattle.vd_rings.proofs.Lying.{ring_reached, ends, no_span, coherent_reached, small_size, some_size}
+use Rattle.vd_rings.proofs.Putting.{Shows}
+use Rattle.vd_domain.specs.Apart.{AreApart}
 use Rattle.blk_driver.specs.Buffers.{has_range}
 use Rattle.blk_driver.specs.Driver.{request_in, made_in, maps_in, pending_of}
 use Rattle.blk_driver.specs.Driver as blk
@@ -49,7 +45,7 @@ use Rattle.blk_driver.specs.declared.driver.Made.{Made}
 use Rattle.blk_driver.specs.declared.pending.Pending.{Pending}
 use Rattle.vd_request_lines.specs.declared.held.HeldDriver.{HeldDriver}
 use Rattle.vd_request_lines.specs.Stands.{RequestsStand, ring_held}
-use Rattle.vd_request_lines.specs.Owned.{AreOwned}
+use Rattle.vd_request_laws.specs.Owned.{QueueOwned}
 use Rattle.vd_request_lines.specs.After.{After}
 use Rattle.vd_request_lines.specs.Ended.{Ends, made_by, IsLeft}
 use Rattle.vd_request_lines.specs.Completed.{completion_answer, used_answer, status_items}
@@ -57,33 +53,22 @@ use Rattle.vd_request_lines.proofs.Polls.{quiet_after, its, request, own_request
 use Rattle.vd_request_lines.proofs.Found.{chain_turn, found_turn, found_is}
 
 -- the buffers of a request that ends have numbers
-pub made_small : (acts : List Act) (q : ℕ) (held : HeldDriver) → RequestsStand acts q (Some held) → AreOwned acts q → (result : Result (Option Polled) UsedError)
+pub made_small : (acts : List Act) (q : ℕ) (held : HeldDriver) → RequestsStand acts q (Some held) → QueueOwned acts q → buffers acts < 2 ^ 62 → (result : Result (Option Polled) UsedError)
     → IfOk result (λ found. IfSome found (λ p. is_waiting held.driver.ring p.head ≡ true))
     → IfOk result (λ found. IfSome found (λ p. IsOutcome (pending_of held.driver p.head) p)) → IfSome (made_by result) (λ d. d.buffer + d.count < 2 ^ 64)
-made_small acts q held r owned (Ok None) waits outcome = tt
-made_small acts q held r owned (Err error) waits outcome = tt
-made_small acts q held r owned (Ok (Some p)) waits outcome = by (pending_of held.driver p.head) refl where
+made_small acts q held r owned few (Ok None) waits outcome = tt
+made_small acts q held r owned few (Err error) waits outcome = tt
+made_small acts q held r owned few (Ok (Some p)) waits outcome = by (pending_of held.driver p.head) refl where
   by : (o : Option Pending) → pending_of held.driver p.head ≡ o → IfSome p.made (λ d. d.buffer + d.count < 2 ^ 64)
   by None e = subst (λ (o : Option Made). IfSome o (λ d. d.buffer + d.count < 2 ^ 64)) (sym (outcome.made ∙ ap (option_map made_in) e)) tt
-  by (Some pd) e = subst (λ (o : Option Made). IfSome o (λ d. d.buffer + d.count < 2 ^ 64)) (sym (outcome.made ∙ ap (option_map made_in) e)) (own_request acts q held r p waits owned pd e).numbers
-
--- bounce memory and coherent memory are apart whatever the acts
-pub apart_as : (x y : Setting) (acts done : List Act) (h : Held) (m n : Pool) → domain.Stands x acts h m → domain.Stands y done h n → AreApart x acts → AreApart y done
-apart_as x y acts done h m n s t apart = record {
-  low = subst (λ b. All (λ (m : Streaming). m.slot + pages_of m.want.len ≤ b) (live_mappings done)) size
-      (subst (λ (ms : List Streaming). All (λ (m : Streaming). m.slot + pages_of m.want.len ≤ x.bounce) ms) (sym s.live ∙ t.live) apart.low);
-  high = subst (λ b. All (λ (r : Coherent). b ≤ r.slot) (live_regions done)) size
-      (subst (λ (rs : List Coherent). All (λ (r : Coherent). x.bounce ≤ r.slot) rs) (sym s.regions ∙ t.regions) apart.high);
-} where
-  size : x.bounce ≡ y.bounce
-  size = s.bounce ∙ sym t.bounce
+  by (Some pd) e = subst (λ (o : Option Made). IfSome o (λ d. d.buffer + d.count < 2 ^ 64)) (sym (outcome.made ∙ ap (option_map made_in) e)) (let made = (own_request acts q held r p waits owned pd e).made in omega (arith, few, made))
 
 -- what is answered of a request
 abbrev status_of : Bool → ℕ → List Item
 status_of complete status = Word tag.Status ∷ (if complete then Number status else Word tag.Dash) ∷ []
 
 module _ (x : Setting) (acts : List Act) (m n : Pool) (q : ℕ) (h k : Memory) (held : HeldDriver) (s : Stands x acts h m) (r : RequestsStand acts q (Some held))
-    (before : Shows h.domain) (later : Shows k.domain) (apart : AreApart x acts) (owned : AreOwned acts q) (heard : Answer → Type 0) (after : Memory) (status : ℕ) where
+    (before : Shows h.domain) (later : Shows k.domain) (apart : AreApart x acts) (owned : QueueOwned acts q) (heard : Answer → Type 0) (after : Memory) (status : ℕ) where
   -- the turn, by what the driver found
   abbrev turn : Result (Option Polled) UsedError → Turn Act
   turn result = found_turn x acts q held.driver.ring.place (completion_in result)

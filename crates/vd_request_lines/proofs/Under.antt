@@ -15,7 +15,7 @@ use Rattle.vd_domain.proofs.Puttings.{IsAddressed, driver_addressed}
 use Rattle.vd_domain.proofs.Holdings.{found_all}
 use Rattle.vd_ring_memory.proofs.RingTelling.{shown_ring_put}
 use Rattle.vd_ring_memory.specs.RingPuts.{IsRingPut}
-use Rattle.vd_driver_port.specs.Reached.{AreApart}
+use Rattle.vd_domain.specs.Apart.{AreApart}
 use Rattle.vd_driver_port.proofs.Quiet.{high_of}
 
 -- what no unmap changes, some unmaps don't change

@@ -6,8 +6,8 @@ use Rattle.vd_model.specs.Acts.{Act, AddedChain, Request}
 use Rattle.vd_model.specs.Queues.{chains_out, published_chains_out}
 use Rattle.vd_queue_sides.specs.Chains.{is_head}
 use Rattle.vd_queue_sides.specs.Chains as sides
-use Rattle.vd_ring_lines.specs.declared.held.HeldRing.{HeldRing}
-use Rattle.vd_ring_lines.specs.Stands.{RingLies}
+use Rattle.vd_rings.specs.declared.held.HeldRing.{HeldRing}
+use Rattle.vd_rings.specs.Stands.{RingLies}
 use Rattle.blk_driver.specs.Driver.{request_in}
 use Rattle.blk_driver.specs.declared.pending.Pending.{Pending}
 use Rattle.vd_request_lines.specs.declared.held.HeldDriver.{HeldDriver}

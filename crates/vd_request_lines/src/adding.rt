@@ -1,11 +1,11 @@
 //! The line that adds a chain to a ring, for no request.
-ghost use Rattle.std.specs.Prelude.{◌≡◌, ◌<◌, ◌≤◌, ◌&&◌, not, ℕ, List, length, Some, None, false, IfOk, OnOk, OnErr};
+ghost use Rattle.std.specs.Prelude.{◌≡◌, ◌<◌, ◌≤◌, ℕ, List, length, Some, None, false, IfOk, OnOk, OnErr};
 ghost use Rattle.vd_pool.specs.Memory.{PoolMemory};
 ghost use Rattle.vd_model.specs.Setting.{Setting};
 ghost use Rattle.vd_model.specs.Creation.{Creation};
 ghost use Rattle.vd_model.specs.Acts.{Act};
 ghost use Rattle.vd_model.specs.BusTurns.{is_missing};
-ghost use Rattle.vd_model.specs.RingTurns.{add_turn, is_out_of_order};
+ghost use Rattle.vd_model.specs.RingTurns.{add_turn};
 ghost use Rattle.vd_domain.specs.Held.{SameCounts};
 ghost use Rattle.vd_domain.specs.Seen.{ring_map};
 ghost use Rattle.vd_memory_lines.specs.Stands.{Stands};
@@ -26,27 +26,7 @@ use vd_memory_lines::Memory;
 use vd_model::{Item, Part, Tag};
 use vd_num::Errno;
 use vd_ring_memory::RingMem;
-
-/// Whether a part that the device reads comes right after one that it writes.
-fn breaks_order(written: bool, part: &Part) -> bool
-    ensures { result ≡ (written && not part.now.writable) }
-{
-    written && !part.writable
-}
-
-/// Whether a part that the device reads comes after one that it writes (virtio 1.2, section 2.7.4.2).
-fn is_out_of_order(parts: &[Part]) -> bool
-    ensures { result ≡ is_out_of_order parts.now }
-{
-    let mut written = false;
-    for part in parts {
-        if breaks_order(written, part) {
-            return true;
-        }
-        written = part.writable;
-    }
-    false
-}
+use vd_rings::is_out_of_order;
 
 /// Adds a chain to a ring in the domain that it lies in.
 fn added(domain: &mut Domain, driver: &mut BlkDriver, parts: &[Part]) -> Result<u16, AddError>

@@ -4,7 +4,7 @@ ghost use Rattle.std.specs.Prelude.{◌≡◌, ◌++◌, [], ℕ, List, Bool, Op
 ghost use Rattle.std.specs.List.{list_any, list_all};
 ghost use Rattle.vd_model.specs.Acts.{Act, Request};
 ghost use Rattle.vd_model.specs.Queues.{chains_out};
-ghost use Rattle.vd_ring_lines.specs.Stands.{leaves_ring};
+ghost use Rattle.vd_rings.specs.Stands.{leaves_ring};
 ghost use Rattle.blk_driver.specs.Driver.{request_in};
 ghost use Rattle.vd_request_lines.specs.declared.held.HeldDriver.{HeldDriver as Held};
 ghost use Rattle.vd_request_lines.specs.Stands.{RequestsStand, ring_in, pending_held};

@@ -1,11 +1,9 @@
 //! The line that takes back a used chain, and ends its request.
-ghost use Rattle.std.specs.Prelude.{◌≡◌, ◌+◌, ◌<◌, ◌≤◌, ◌^◌, ◌++◌, ◌==◌, ◌∷◌, ℕ, List, Some, None, true, false, IfOk, IfSome};
-ghost use Rattle.std.specs.List.{list_any};
+ghost use Rattle.std.specs.Prelude.{◌≡◌, ◌+◌, ◌<◌, ◌≤◌, ◌^◌, ◌++◌, ℕ, List, Some, None, true, false, IfOk, IfSome};
 ghost use Rattle.vd_pool.specs.Memory.{PoolMemory};
 ghost use Rattle.vd_model.specs.Setting.{Setting};
 ghost use Rattle.vd_model.specs.Creation.{Creation, has_feature};
-ghost use Rattle.vd_model.specs.Acts.{Act, Driver, Freed};
-ghost use Rattle.vd_model.specs.Live.{live_mappings};
+ghost use Rattle.vd_model.specs.Acts.{Act};
 ghost use Rattle.vd_model.specs.Puts.{ram};
 ghost use Rattle.vd_model.specs.BusTurns.{is_missing};
 ghost use Rattle.vd_model.specs.DaemonTurns.{has_event_idx};
@@ -20,15 +18,16 @@ ghost use Rattle.vr_driver.specs.Driver.{next_completion, with_answer};
 ghost use Rattle.blk_driver.specs.Buffers.{has_range};
 ghost use Rattle.blk_driver.specs.Driver.{pending_of};
 ghost use Rattle.blk_driver.specs.Polled.{IsOutcome, completion_in, driver_after, maps_of};
-ghost use Rattle.vd_driver_port.specs.Reached.{IsReached, AreApart};
+ghost use Rattle.vd_driver_port.specs.Reached.{IsReached};
 ghost use Rattle.vd_driver_port.specs.Rest.{KeepsMemory};
 ghost use Rattle.vd_request_lines.specs.Known.{IsKnown};
 ghost use Rattle.vd_request_lines.specs.Stands.{RequestsStand};
-ghost use Rattle.vd_request_lines.specs.Owned.{AreOwned};
+ghost use Rattle.vd_request_laws.specs.Owned.{QueueOwned};
 ghost use Rattle.vd_request_lines.specs.After.{After, IsHeld};
 ghost use Rattle.vd_request_lines.specs.Ended.{Ends, made_by, IsLeft};
 ghost use Rattle.vd_request_lines.specs.Completed.{completion_answer, used_answer};
 
+use crate::ending::free_made;
 use crate::held::{HeldDriver, KnownDriver};
 use blk_driver::{BlkDriver, Made, Polled, UsedError};
 use vd_answers::Hears;
@@ -78,29 +77,6 @@ fn status_in(buffers: &Buffers, buffer: u64) -> u8
         Ok(text) => text[0],
         // A request's buffer has its status byte.
         Err(_) => 0,
-    }
-}
-
-/// Frees a buffer, where it is there.
-fn free_buffer(memory: &mut Memory, number: u64)
-    ensures freed { (x : Setting) (acts : List Act) (m : PoolMemory) → Stands x acts memory.old m →
-        list_any (λ m. m.want.buffer == number) (live_mappings acts) ≡ false → Stands x (Driver (Freed number) ∷ acts) memory.new m }
-    ensures rest { memory.new ≡ record memory.old { buffers = memory.new.buffers } }
-{
-    if memory.buffers.len_of(number).is_some() {
-        memory.buffers.free(number);
-    }
-}
-
-/// Frees the buffers that were made for a request.
-fn free_made(memory: &mut Memory, made: &Made)
-    requires numbers { made.now.buffer + made.now.count < 2 ^ 64 }
-    ensures freed { (x : Setting) (acts : List Act) (m : PoolMemory) → Stands x acts memory.old m → IsLeft acts made.now →
-        Stands x (free_acts made.now.buffer made.now.count ++ acts) memory.new m }
-    ensures rest { memory.new ≡ record memory.old { buffers = memory.new.buffers } }
-{
-    for k in 0..made.count {
-        free_buffer(memory, made.buffer + u64::from(k));
     }
 }
 
@@ -197,11 +173,14 @@ fn poll_on<T: Hears>(
     requires out { IsOut memory.old pool.old }
     requires room { memory.old.domain.maps < 2 ^ 62 }
     ensures line { (x : Setting) (made : Creation) (acts : List Act) (q : ℕ) → Stands x acts memory.old pool.old →
-        RequestsStand acts q (Some held.old) → AreOwned acts q → is_missing made q ≡ false → has_feature features 29 ≡ has_event_idx acts →
+        RequestsStand acts q (Some held.old) → QueueOwned acts q → is_missing made q ≡ false → has_feature features 29 ≡ has_event_idx acts →
         Tells (λ said. T.heard told.old said told.new) (poll_turn x made acts q) (After x acts q memory.new pool.new (Some held.new)) }
     ensures rest { KeepsMemory memory.old memory.new pool.old pool.new }
     ensures maps { memory.new.domain.maps ≤ memory.old.domain.maps }
 {
+    // The buffers of a request have numbers, since they were made.
+    let _made = memory.buffers.count();
+    memory.domain.keeps_apart();
     memory.domain.sees_rings();
     let ended = polled(memory, pool, &mut held.driver, features);
     memory.domain.sees_rings();
@@ -224,7 +203,7 @@ pub fn poll<T: Hears>(
     requires out { IsOut memory.old pool.old }
     requires room { memory.old.domain.maps < 2 ^ 62 }
     ensures line { (x : Setting) (made : Creation) (acts : List Act) (q : ℕ) → Stands x acts memory.old pool.old →
-        RequestsStand acts q kept.old → AreOwned acts q → IsKnown made acts q queue.now →
+        RequestsStand acts q kept.old → QueueOwned acts q → IsKnown made acts q queue.now →
         Tells (λ said. T.heard told.old said told.new) (poll_turn x made acts q) (After x acts q memory.new pool.new kept.new) }
     ensures rest { KeepsMemory memory.old memory.new pool.old pool.new }
     ensures maps { memory.new.domain.maps ≤ memory.old.domain.maps }

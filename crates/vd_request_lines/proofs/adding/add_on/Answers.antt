@@ -1,7 +1,7 @@
 use Rattle.std.proofs.Common.{refl, sym, ◌∙◌}
 use Rattle.vd_answers.proofs.Telling.{tells_by}
 use Rattle.vd_domain.specs.Seen.{ring_map}
-use Rattle.vd_ring_lines.proofs.Lying.{ring_reached}
+use Rattle.vd_rings.proofs.Lying.{ring_reached}
 use Rattle.vd_request_lines.specs.Stands.{ring_held}
 use Rattle.vd_request_lines.proofs.Adds.{disordered, full_turn, refused_after, adds}
 use Rattle.vd_request_lines.proofs.adding.add_on.Goals as goal

@@ -1,5 +1,5 @@
 use Rattle.std.proofs.Common.{length}
-use Rattle.vd_ring_lines.proofs.Chains.{refused_full}
+use Rattle.vd_rings.proofs.Chains.{refused_full}
 use Rattle.vd_request_lines.proofs.adding.added.Goals as goal
 
 pub returns-clause-full : goal.returns-clause-full

@@ -1,6 +1,6 @@
 use Rattle.std.proofs.Common.{◌≤◌, rules, arith}
 use Rattle.blk_driver.specs.Polled.{maps_of}
-use Rattle.vd_ring_lines.proofs.Lying.{map_of}
+use Rattle.vd_rings.proofs.Lying.{map_of}
 use Rattle.vd_request_lines.specs.Ended.{Ends}
 use Rattle.vd_request_lines.proofs.polling.polled.Goals as goal
 

@@ -1,7 +1,7 @@
 use Rattle.std.proofs.Common.{refl, ◌∙◌}
 use Rattle.vd_domain.specs.Seen.{ring_map}
-use Rattle.vd_ring_lines.proofs.Lying.{ring_reached}
-use Rattle.vd_ring_lines.proofs.Kicks.{one_is}
+use Rattle.vd_rings.proofs.Lying.{ring_reached}
+use Rattle.vd_rings.proofs.Kicks.{one_is}
 use Rattle.vd_request_lines.specs.Stands.{ring_held}
 use Rattle.vd_request_lines.proofs.Publishes.{publishes}
 use Rattle.vd_request_lines.proofs.publishing.publish_on.Goals as goal

@@ -1,5 +1,5 @@
 use Rattle.std.proofs.Common.{refl, rules}
-use Rattle.vd_ring_lines.proofs.Lying.{map_of}
+use Rattle.vd_rings.proofs.Lying.{map_of}
 use Rattle.vd_request_lines.proofs.publishing.published.Goals as goal
 
 pub returns-clause-told : goal.returns-clause-told

@@ -5,7 +5,7 @@ use Rattle.vd_model.specs.Acts.{Act}
 use Rattle.vd_model.specs.RingTurns.{free_acts}
 use Rattle.vd_memory_lines.specs.Stands.{Stands}
 use Rattle.vd_request_lines.specs.Ended.{IsLeft}
-use Rattle.vd_request_lines.proofs.polling.free_made.Given as goal
+use Rattle.vd_request_lines.proofs.ending.free_made.Given as goal
 
 abbrev pub invariant-loop-k : goal.invariant-loop-k
 invariant-loop-k l = record {

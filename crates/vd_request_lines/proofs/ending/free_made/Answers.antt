@@ -6,7 +6,7 @@ use Rattle.vd_model.specs.RingTurns.{free_acts}
 use Rattle.vd_memory_lines.specs.declared.memory.Memory.{Memory}
 use Rattle.vd_memory_lines.specs.Stands.{Stands}
 use Rattle.vd_request_lines.proofs.Freeing.{freed_more}
-use Rattle.vd_request_lines.proofs.polling.free_made.Goals as goal
+use Rattle.vd_request_lines.proofs.ending.free_made.Goals as goal
 
 one_more : (n : ℕ) → suc n ≡ n + 1
 one_more n = omega arith
