@@ -66,8 +66,9 @@ stands_beside {x} {made} {acts} {m} i old new n held apart keeps s = record {
       inside = s.device.memory.inside;
     };
   };
-  rings = s.rings;
+  drivers = s.drivers;
   places = s.places;
+  owned = s.owned;
   apart = s.apart;
   sizes = s.sizes;
   daemons = s.daemons;

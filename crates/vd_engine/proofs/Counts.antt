@@ -1,5 +1,5 @@
 -- No count of a device above a number.
-use Rattle.std.proofs.Common.{◌≡◌, ℕ, ◌<◌, ◌≤◌, subst, sym, ◌∙◌, arith, List, length, Some}
+use Rattle.std.proofs.Common.{◌≡◌, ℕ, ◌<◌, ◌≤◌, ◌*◌, subst, sym, ◌∙◌, arith, List, length, Some}
 use Rattle.std.specs.Prelude.{All, unwrap_or}
 use Rattle.std.specs.List.{slice_get, slice_index_or}
 use Rattle.std.proofs.lemmas.Option.{get_or_from_slice_get}
@@ -15,7 +15,7 @@ use Rattle.vd_instance.specs.Stands.{Stands, IsWithin}
 
 pub within_later : (least most : ℕ) (i : Instance) → least ≤ most → IsWithin least i → IsWithin most i
 within_later least most i le w = record {
-  path = path.within_later least most i.device.path le w.path;
+  path = path.within_later (4 * least) (4 * most) i.device.path (omega (arith, le)) w.path;
   maps = (let h = w.maps in omega arith);
   regions = (let h = w.regions in omega arith);
 }
@@ -38,14 +38,14 @@ within_same {x} {made} {acts} i j most s t w =
     record {
       path = record {
         state = record {
-          kicks = all_same (λ (q : Queue). unwrap_or q.kicks 0 ≤ most) _ _ (queue_of (state_acts acts)) len here there w.path.state.kicks;
-          queues = all_same (λ (q : Queue). q.interrupts ≤ most) _ _ (queue_of (state_acts acts)) len here there w.path.state.queues;
-          generations = all_same (λ (q : Queue). q.generation ≤ most) _ _ (queue_of (state_acts acts)) len here there w.path.state.generations;
-          config = subst (λ k. k ≤ most) (a.interrupts ∙ sym b.interrupts) w.path.state.config;
+          kicks = all_same (λ (q : Queue). unwrap_or q.kicks 0 ≤ 4 * most) _ _ (queue_of (state_acts acts)) len here there w.path.state.kicks;
+          queues = all_same (λ (q : Queue). q.interrupts ≤ 4 * most) _ _ (queue_of (state_acts acts)) len here there w.path.state.queues;
+          generations = all_same (λ (q : Queue). q.generation ≤ 4 * most) _ _ (queue_of (state_acts acts)) len here there w.path.state.generations;
+          config = subst (λ k. k ≤ 4 * most) (a.interrupts ∙ sym b.interrupts) w.path.state.config;
         };
-        sessions = subst (λ k. k ≤ most) (s.device.path.sessions ∙ sym t.device.path.sessions) w.path.sessions;
-        closings = subst (λ k. k ≤ most) (s.device.path.closings ∙ sym t.device.path.closings) w.path.closings;
+        sessions = subst (λ k. k ≤ 4 * most) (s.device.path.sessions ∙ sym t.device.path.sessions) w.path.sessions;
+        closings = subst (λ k. k ≤ 4 * most) (s.device.path.closings ∙ sym t.device.path.closings) w.path.closings;
       };
-      maps = subst (λ k. k ≤ most) (s.device.memory.domain.maps ∙ sym t.device.memory.domain.maps) w.maps;
-      regions = subst (λ k. k ≤ most) (s.device.memory.domain.made ∙ sym t.device.memory.domain.made) w.regions;
+      maps = subst (λ k. k ≤ 4 * most) (s.device.memory.domain.maps ∙ sym t.device.memory.domain.maps) w.maps;
+      regions = subst (λ k. k ≤ 4 * most) (s.device.memory.domain.made ∙ sym t.device.memory.domain.made) w.regions;
     }

@@ -5,7 +5,6 @@ ghost use Rattle.vd_io.specs.Told.{Rose};
 ghost use Rattle.vd_model.specs.Setting.{Setting};
 ghost use Rattle.vd_model.specs.Deeds.{Deed};
 ghost use Rattle.vd_model.specs.History.{History, deeds_of, outcome, reply};
-ghost use Rattle.vd_output.specs.Served.{served};
 ghost use Rattle.vd_device.specs.Sizes.{AreFit, IsSized};
 ghost use Rattle.vd_engine.specs.Frugal.{is_frugal, is_execution};
 ghost use Rattle.vd_engine.specs.Does.{plain_of};
@@ -86,7 +85,6 @@ impl Engine {
         requires ready { T.is_ready told.old }
         requires room { self.old.asked < 2 ^ 40 }
         requires reached { IsReached self.old }
-        requires served { served step.now ≡ true }
         requires disk { I.size disk.old ≡ self.old.sectors }
         ensures line { Serves (λ said. T.heard told.old said told.new)
             (λ x done failed. outcome x done step.now failed) (is_execution step.now)
@@ -122,7 +120,6 @@ impl Engine {
         requires ready { T.is_ready told.old }
         requires room { self.old.asked < 2 ^ 40 }
         requires reached { IsReached self.old }
-        requires served { served step.now ≡ true }
         requires disk { I.size disk.old ≡ self.old.sectors }
         ensures ok { (x : Setting) (h : History) → StandsFor x h self.old →
             (is_execution step.now ≡ true → IsImage x (deeds_of x h) (I.size disk.old) (I.content disk.old)) →
@@ -165,7 +162,6 @@ impl Engine {
     pub fn step<I: Image>(&mut self, disk: &mut I, step: &Step<'_>) -> Result<Stepped, AllocError>
         requires room { self.old.asked < 2 ^ 40 }
         requires reached { IsReached self.old }
-        requires served { served step.now ≡ true }
         requires disk { I.size disk.old ≡ self.old.sectors }
         ensures ok { (x : Setting) (h : History) → StandsFor x h self.old →
             (is_execution step.now ≡ true → IsImage x (deeds_of x h) (I.size disk.old) (I.content disk.old)) →

@@ -5,7 +5,6 @@ ghost use Rattle.vd_io.specs.Told.{Rose};
 ghost use Rattle.vd_model.specs.Setting.{Setting};
 ghost use Rattle.vd_model.specs.Deeds.{Deed, device_view, acts_of_device};
 ghost use Rattle.vd_model.specs.History.{device_outcome, device_turn, device_queue_turn};
-ghost use Rattle.vd_output.specs.Served.{queue_served};
 ghost use Rattle.vd_device.specs.Frugal.{takes_no_memory};
 
 use crate::devices::place_of;
@@ -64,7 +63,6 @@ impl Engine {
         requires ready { T.is_ready told.old }
         requires room { self.old.asked < 2 ^ 40 }
         requires reached { IsReached self.old }
-        requires served { queue_served step.now ≡ true }
         requires disk { I.size disk.old ≡ self.old.sectors }
         ensures line { Serves (λ said. T.heard told.old said told.new)
             (λ x done failed. device_outcome name.now (device_queue_turn x name.now (device_view x name.now done) failed step.now)) (is_execute step.now)

@@ -1,5 +1,5 @@
 -- How many positions of a block daemon ended, from what a device counts.
-use Rattle.std.proofs.Common.{◌≡◌, ℕ, ◌+◌, ◌-◌, ◌<◌, ◌≤◌, ◌^◌, ◌%◌, Bool, true, false, refl, subst, not, nat_lt, arith, List, Some, All, true≢false}
+use Rattle.std.proofs.Common.{◌≡◌, ℕ, ◌+◌, ◌*◌, ◌-◌, ◌<◌, ◌≤◌, ◌^◌, ◌%◌, Bool, true, false, refl, subst, not, nat_lt, arith, List, Some, All, true≢false}
 use Rattle.std.specs.Prelude.{slice_get}
 use Rattle.std.proofs.lemmas.Bool.Decides.{nat_tests}
 use Rattle.std.proofs.lemmas.List.Elements.{All-get_or}
@@ -32,9 +32,9 @@ below_by : (q n : ℕ) → nat_lt q n ≡ true → q < n
 below_by q n e = grind (arith, nat_tests, e)
 
 pub ends_sum : {x : Setting} {made : Creation} {acts : List Act} {i : Instance} {m : Pool} {generation total : ℕ} → Stands x made acts i m → (q : ℕ) → is_queue (shape_of made) q ≡ true
-    → IsWithin (2 ^ 62 - 1) i → generation ≡ generation_of (state_acts acts) q → total ≡ (i.device.path.closings + generation) % 2 ^ 64 → total ≡ ends_of acts q
+    → IsWithin (2 ^ 59) i → generation ≡ generation_of (state_acts acts) q → total ≡ (i.device.path.closings + generation) % 2 ^ 64 → total ≡ ends_of acts q
 ends_sum {x} {made} {acts} {i} {m} {generation} {total} s q there room counted sum =
     let closed = s.device.path.closings in
     let few = room.path.closings in
-    let small = generation_small (2 ^ 62 - 1) i.device.path.state.queues q (queue_of (state_acts acts) q) (s.device.path.state.queues q (below_by q made.queues there)) room.path.state.generations in
+    let small = generation_small (4 * 2 ^ 59) i.device.path.state.queues q (queue_of (state_acts acts) q) (s.device.path.state.queues q (below_by q made.queues there)) room.path.state.generations in
     omega (arith, closed, few, small, counted, sum)

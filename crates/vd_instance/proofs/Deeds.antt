@@ -1,27 +1,14 @@
--- What the acts of a line on a queue's ring leave: the control path, the buffers, and the rings of other queues.
+-- What the acts of a driver's line on a queue leave: the control path, the block daemons, and the rings of other queues.
 use Rattle.std.proofs.Common.{◌≡◌, ℕ, Bool, true, false, refl, ap, sym, ◌∙◌, subst, not, List, [], ◌∷◌, ◌++◌, Option, Some, None, true≢false, ◌==◌, inl, inr}
-use Rattle.std.specs.Prelude.{◌&&◌, All}
+use Rattle.std.specs.Prelude.{◌&&◌}
 use Rattle.std.specs.List.{list_all}
 use Rattle.std.proofs.lemmas.Bool.Decides.{eqb_tells}
-use Rattle.vd_pool.specs.Memory.{PoolMemory as Pool}
-use Rattle.vd_model.specs.Setting.{Setting}
 use Rattle.vd_model.specs.Acts.{Act, DriverAct, QueueAct, Node, Driver, Bus, Message_act, State, Queue, Disk_act, Buffer, Zeroed, Freed, Poked, Mapped, Unmapped, Synced_device, Synced_cpu, Region_made, Region_freed, Driver_put, Ring_made, Ring_dropped, Chain_added, Chains_published, Chain_reclaimed, Fetched, Executed, Finished, state_acts}
-use Rattle.vd_model.specs.Live.{live_mappings}
-use Rattle.vd_buffers.specs.Places.{Places}
-use Rattle.vd_buffers.specs.Stands.{is_buffer_act}
-use Rattle.vd_buffers.specs.Stands as buffers
-use Rattle.vd_buffers.proofs.Changed.{leaves_buffers}
 use Rattle.vd_control_path.specs.Acts.{is_memory_act}
 use Rattle.vd_control_path.proofs.Parts.{same_after, all_of}
-use Rattle.vd_memory_lines.specs.declared.memory.Memory.{Memory}
-use Rattle.vd_memory_lines.specs.Stands as memory
-use Rattle.vd_memory_lines.specs.Stands.{IsInside}
-use Rattle.vd_memory_lines.proofs.Parts.{stay_inside}
-use Rattle.vd_domain.specs.Held.{Held}
-use Rattle.vd_domain.specs.Stands as domain
 use Rattle.vd_queue_sides.specs.Chains.{is_ring_act}
-use Rattle.vd_ring_lines.specs.declared.held.HeldRing.{HeldRing}
-use Rattle.vd_ring_lines.specs.Stands.{leaves_ring}
+use Rattle.vd_rings.specs.declared.held.HeldRing.{HeldRing}
+use Rattle.vd_rings.specs.Stands.{leaves_ring}
 use Rattle.vd_instance.proofs.Holding.{leaves_daemon}
 
 pub both_of : (a b : Bool) → (a && b) ≡ true → (a ≡ true) × (b ≡ true)
@@ -40,12 +27,10 @@ is_queue_deed q (Chains_published k) = k == q
 is_queue_deed q (Chain_reclaimed k head) = k == q
 is_queue_deed q _ = false
 
--- or it puts bytes, makes a region, or frees one of these
+-- or it is of the driver, and frees no region but one of these
 abbrev pub is_driver_deed : (ℕ → Bool) → DriverAct → Bool
-is_driver_deed may (Driver_put at bytes) = true
-is_driver_deed may (Region_made r) = true
 is_driver_deed may (Region_freed r) = may r.number
-is_driver_deed may _ = false
+is_driver_deed may _ = true
 
 abbrev pub is_deed : (ℕ → Bool) → ℕ → Act → Bool
 is_deed may q (Queue act) = is_queue_deed q act
@@ -79,63 +64,8 @@ module _ (may : ℕ → Bool) (q : ℕ) where
   of_deed f one two (State act) acts e = no e
   of_deed f one two (Disk_act act) acts e = no e
 
-  driver_maps : (act : DriverAct) (acts : List Act) → is_driver_deed may act ≡ true → live_mappings (Driver act ∷ acts) ≡ live_mappings acts
-  driver_maps (Driver_put at bytes) acts e = refl
-  driver_maps (Region_made r) acts e = refl
-  driver_maps (Region_freed r) acts e = refl
-  driver_maps (Buffer bytes) acts e = no e
-  driver_maps (Zeroed len) acts e = no e
-  driver_maps (Freed k) acts e = no e
-  driver_maps (Poked k at bytes) acts e = no e
-  driver_maps (Mapped m) acts e = no e
-  driver_maps (Unmapped m) acts e = no e
-  driver_maps (Synced_device m) acts e = no e
-  driver_maps (Synced_cpu m) acts e = no e
-
-  pub same_maps : (acts done : List Act) → list_all (is_deed may q) acts ≡ true → live_mappings (acts ++ done) ≡ live_mappings done
-  same_maps acts done e = same_after live_mappings (is_deed may q) (of_deed live_mappings (λ act acts. refl) driver_maps) acts done e
-
   pub same_state : (acts done : List Act) → list_all (is_deed may q) acts ≡ true → state_acts (acts ++ done) ≡ state_acts done
   same_state acts done e = same_after state_acts (is_deed may q) (of_deed state_acts (λ act acts. refl) (λ act acts e. refl)) acts done e
-
-  no_buffer : (act : Act) → is_deed may q act ≡ true → is_buffer_act act ≡ false
-  no_buffer (Queue act) e = refl
-  no_buffer (Driver act) e = by act e where
-    by : (act : DriverAct) → is_driver_deed may act ≡ true → is_buffer_act (Driver act) ≡ false
-    by (Driver_put at bytes) e = refl
-    by (Region_made r) e = refl
-    by (Region_freed r) e = refl
-    by (Buffer bytes) e = no e
-    by (Zeroed len) e = no e
-    by (Freed k) e = no e
-    by (Poked k at bytes) e = no e
-    by (Mapped m) e = no e
-    by (Unmapped m) e = no e
-    by (Synced_device m) e = no e
-    by (Synced_cpu m) e = no e
-  no_buffer (Node act) e = no e
-  no_buffer (Bus act) e = no e
-  no_buffer (Message_act act) e = no e
-  no_buffer (State act) e = no e
-  no_buffer (Disk_act act) e = no e
-
-  buffers_stay : (g : ℕ) (places : Places) (acts done : List Act) → list_all (is_deed may q) acts ≡ true → buffers.Stands g done places → buffers.Stands g (acts ++ done) places
-  buffers_stay g places [] done e s = s
-  buffers_stay g places (act ∷ acts) done e s =
-      let parts = both_of (is_deed may q act) (list_all (is_deed may q) acts) e in
-      leaves_buffers g (acts ++ done) places (buffers_stay g places acts done parts.1 s) act (no_buffer act parts.0)
-
-  -- a memory whose domain stands for the acts stands for them
-  pub memory_stays : (x : Setting) (acts done : List Act) (k : Memory) (m : Pool) (d : Held) → list_all (is_deed may q) acts ≡ true → memory.Stands x done k m
-      → domain.Stands x (acts ++ done) d m → memory.Stands x (acts ++ done) (record k { domain = d }) m
-  memory_stays x acts done k m d e s stands =
-      let kept = buffers_stay x.per_page k.buffers acts done e s.buffers in
-      record {
-        domain = stands;
-        buffers = kept;
-        inside = subst (λ ms. All (IsInside (acts ++ done)) ms) (sym (same_maps acts done e))
-            (stay_inside done (acts ++ done) (live_mappings done) (λ b size there. sym (kept.lens b) ∙ s.buffers.lens b ∙ there) s.inside);
-      }
 
 -- ---- the block daemons
 

@@ -167,11 +167,11 @@ same_content w (Some c) = refl
 -- ---- the line
 
 module _ {x : Setting} {made : Creation} {done : List Act} {i : Instance} {m : Pool} (q : ℕ) (k : Held) (ends : ℕ) (j : Instance)
-    (less : q < length i.daemons.items) (of : j.device ≡ i.device) (rings : j.rings ≡ i.rings)
+    (less : q < length i.daemons.items) (of : j.device ≡ i.device) (drivers : j.drivers ≡ i.drivers)
     (placed : j.daemons.items ≡ set i.daemons.items q (record { daemon = k; ends = ends })) (now : ends ≡ ends_of done q) (s : Stands x made done i m) where
   pub execution_line : (acts : List Act) → are_executions q acts ≡ true → DaemonStands x (acts ++ done) q k → Stands x made (acts ++ done) j m
   execution_line acts only a =
-      service_line q i.device.memory.domain k ends j less of rings placed now s acts (are_served q acts only)
+      service_line q i.device.memory.domain k ends j less of drivers placed now s acts (are_served q acts only)
       (record { domain = domain_still q x acts done i.device.memory.domain m only s.device.memory.domain; daemon = a })
 
   pub execution_tells : {heard : Answer → Type 0} {turn : Turn Act} {w : Window} {old new : Option (List ℕ)} → IsSome old → are_executions q turn.acts ≡ true

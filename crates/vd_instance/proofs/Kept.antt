@@ -13,11 +13,12 @@ use Rattle.vd_answers.specs.Tells.{MayTell}
 use Rattle.vd_control_path.proofs.Parts.{same_after, all_of}
 use Rattle.vd_device.specs.declared.device.Device.{Device}
 use Rattle.vd_device.specs.Stands as device
-use Rattle.vd_ring_lines.specs.declared.held.HeldRing.{HeldRing}
-use Rattle.vd_ring_lines.specs.Stands.{leaves_ring}
-use Rattle.vd_ring_lines.proofs.Leaving.{ring_stays}
+use Rattle.vd_rings.specs.declared.held.HeldRing.{HeldRing}
+use Rattle.vd_rings.specs.Stands.{leaves_ring}
+use Rattle.vd_request_laws.specs.Owned.{AreOwned}
+use Rattle.vd_request_lines.proofs.Leaving.{requests_stay}
 use Rattle.vd_instance.specs.declared.instance.Instance.{Instance}
-use Rattle.vd_instance.specs.Stands.{Stands, After, HaveOwnRegions, kept_ring}
+use Rattle.vd_instance.specs.Stands.{Stands, After, HaveOwnRegions, kept_driver, kept_ring}
 use Rattle.vd_instance.proofs.Calm.{is_calm, are_calm}
 use Rattle.vd_instance.proofs.Deeds.{both_of, IsSpared}
 use Rattle.vd_instance.proofs.Holding.{leaves_daemon, all_hold}
@@ -96,11 +97,12 @@ calm_daemon may q (Disk_act act) e = refl
 -- ---- a line on the device
 
 pub device_line : {x : Setting} {made : Creation} {done : List Act} {i : Instance} {m n : Pool} (may : ℕ → Bool) (d : Device) (acts : List Act) → ((q : ℕ) → IsSpared may (kept_ring i q))
-    → are_calm may acts ≡ true → Stands x made done i m → device.Stands x made (acts ++ done) d n → Stands x made (acts ++ done) (record i { device = d }) n
-device_line {x} {made} {done} {i} may d acts free only s h = record {
+    → are_calm may acts ≡ true → AreOwned (acts ++ done) made.queues → Stands x made done i m → device.Stands x made (acts ++ done) d n → Stands x made (acts ++ done) (record i { device = d }) n
+device_line {x} {made} {done} {i} may d acts free only owned s h = record {
   device = h;
-  rings = λ q. ring_stays q acts done (kept_ring i q) (all_of (is_calm may) (leaves_ring q (kept_ring i q)) (calm_leaves may q (kept_ring i q) (free q)) acts only) (s.rings q);
+  drivers = λ q. requests_stay q acts done (kept_driver i q) (all_of (is_calm may) (leaves_ring q (kept_ring i q)) (calm_leaves may q (kept_ring i q) (free q)) acts only) (s.drivers q);
   places = s.places;
+  owned = owned;
   apart = own_still done (acts ++ done) (λ q. same_after (λ l. ring_of l q) (is_calm may) (no_rings may q) acts done only) s.apart;
   sizes = sizes_after may acts done only s.sizes;
   daemons = all_hold x acts done i.daemons.items (λ q. all_of (is_calm may) (leaves_daemon q) (calm_daemon may q) acts only) s.daemons;
@@ -108,10 +110,10 @@ device_line {x} {made} {done} {i} may d acts free only s h = record {
 }
 
 pub device_tells : {E : Type 0} {heard : Answer → Type 0} {turn : Turn Act} {x : Setting} {made : Creation} {done : List Act} {i : Instance} {m n : Pool} (may : ℕ → Bool) (d : Device) (r : Result (Unit {0}) E)
-    → ((q : ℕ) → IsSpared may (kept_ring i q)) → are_calm may turn.acts ≡ true
+    → ((q : ℕ) → IsSpared may (kept_ring i q)) → are_calm may turn.acts ≡ true → AreOwned (turn.acts ++ done) made.queues
     → Stands x made done i m → MayTell heard turn (device.After x made done d n) r → MayTell heard turn (After x made done (record i { device = d }) n) r
-device_tells {E} {heard} {turn} may d (Ok u) free only s h = record { says = h.says; stands = device_line may d turn.acts free only s h.stands }
-device_tells may d (Err e) free only s h = record { says = tt; stands = device_line may d [] free refl s h.stands }
+device_tells {E} {heard} {turn} may d (Ok u) free only owned s h = record { says = h.says; stands = device_line may d turn.acts free only owned s h.stands }
+device_tells may d (Err e) free only owned s h = record { says = tt; stands = device_line may d [] free refl s.owned s h.stands }
 
 -- an act of another kind than these, as of time, frees none
 pub spares_all : (kept : Option HeldRing) → IsSpared (λ n. false) kept

@@ -17,3 +17,5 @@ pub mod ServiceTurns
 pub mod Served
 pub mod Services
 pub mod Walked
+pub mod Owned
+pub mod Resting

@@ -17,10 +17,10 @@ use Rattle.vd_model.specs.BusTurns.{is_missing}
 use Rattle.vd_model.specs.Queues.{Ring, ring_of}
 use Rattle.vd_model.specs.RingTurns.{ring_turn, made_ring_turn, is_ring_size, ring_bytes, ring_at}
 use Rattle.vd_queue_sides.proofs.Daemons.{itself}
-use Rattle.vd_ring_lines.specs.declared.held.HeldRing.{HeldRing}
-use Rattle.vd_ring_lines.specs.Stands.{RingStands}
+use Rattle.vd_request_lines.specs.declared.held.HeldDriver.{HeldDriver}
+use Rattle.vd_request_lines.specs.Stands.{RequestsStand}
 use Rattle.vd_instance.specs.declared.instance.Instance.{Instance}
-use Rattle.vd_instance.specs.Stands.{Stands, HaveOwnRegions, kept_ring}
+use Rattle.vd_instance.specs.Stands.{Stands, HaveOwnRegions, kept_driver}
 use Rattle.vd_instance.proofs.Own.{IsOwn, no_acts, refused_own}
 
 -- the region of a ring, if there is one
@@ -34,8 +34,8 @@ no_ring r e = cc
 -- the regions of rings are among those that were made
 pub low_regions : {x : Setting} {made : Creation} {done : List Act} {i : Instance} {m : Pool} → Stands x made done i m → (k : ℕ) (r : Ring) → ring_of done k ≡ Some r → r.region < regions done
 unfolding region_in
-low_regions {x} {made} {done} {i} s k r e = by (kept_ring i k) (s.rings k) where
-  by : (o : Option HeldRing) → RingStands done k o → r.region < regions done
+low_regions {x} {made} {done} {i} s k r e = by (kept_driver i k) (s.drivers k) where
+  by : (o : Option HeldDriver) → RequestsStand done k o → r.region < regions done
   by None h = absurd (no_ring r (sym h.side ∙ e))
   by (Some held) h = subst (λ n. n < regions done) (ap region_in (sym h.side.ring ∙ e)) h.lies.number
 

@@ -21,8 +21,9 @@ use Rattle.vd_device.specs.declared.device.Device.{Device}
 use Rattle.vd_device.specs.Stands as device
 use Rattle.vd_device.proofs.Parts.{memory_line}
 use Rattle.vd_domain.specs.Held as domains
-use Rattle.vd_ring_lines.specs.Stands.{RingStands}
-use Rattle.vd_ring_lines.proofs.Leaving.{ring_stays}
+use Rattle.vd_request_laws.proofs.Pending.{quiet_owned}
+use Rattle.vd_request_lines.specs.Stands.{RequestsStand}
+use Rattle.vd_request_lines.proofs.Leaving.{requests_stay}
 use Rattle.blk_daemon.specs.Held.{Held}
 use Rattle.vd_daemon_lines.specs.After as daemon
 use Rattle.vd_daemon_lines.specs.Stands.{DaemonStands}
@@ -32,11 +33,11 @@ use Rattle.vd_instance.specs.Daemons.{DaemonHolds, DaemonsHold, AreNamed, daemon
 use Rattle.vd_instance.specs.Lines.{daemon_line_turn}
 use Rattle.vd_instance.specs.declared.service.DaemonLine.{DaemonLine}
 use Rattle.vd_instance.specs.declared.service.DaemonLine.TheVariants.{Fetch, Finish}
-use Rattle.vd_instance.specs.Stands.{Stands, After, kept_ring}
+use Rattle.vd_instance.specs.Stands.{Stands, After, kept_driver, kept_ring}
 use Rattle.vd_instance.proofs.Holding.{holds_after, kept_now}
 use Rattle.vd_instance.proofs.Kept.{own_still}
 use Rattle.vd_instance.proofs.Placed.{with_domain}
-use Rattle.vd_instance.proofs.Services.{are_services, services_path, service_state, service_ends, service_ring, services_leave, services_apart, memory_serves}
+use Rattle.vd_instance.proofs.Services.{are_services, services_path, service_state, service_ends, service_ring, services_leave, services_apart, services_quiet, memory_serves}
 
 -- a queue whose daemon is there, and one that has none
 pub is_served : (i : Instance) (q : ℕ) → q < vec_len i.daemons → q < length i.daemons.items
@@ -80,7 +81,7 @@ named_still name kept q new e all = λ t d there. elim (eqb_tells t q) [ inl h �
       ap (λ k. k.daemon.name) (this_one kept q new d below (subst (λ n. slice_get (set kept q new) n ≡ Some d) same there)) ∙ e
 
 module _ {x : Setting} {made : Creation} {done : List Act} {i : Instance} {m : Pool} (q : ℕ) (h : domains.Held) (k : Held) (ends : ℕ) (j : Instance)
-    (less : q < length i.daemons.items) (of : j.device ≡ with_domain i.device h) (rings : j.rings ≡ i.rings)
+    (less : q < length i.daemons.items) (of : j.device ≡ with_domain i.device h) (drivers : j.drivers ≡ i.drivers)
     (placed : j.daemons.items ≡ set i.daemons.items q (record { daemon = k; ends = ends })) (now : ends ≡ ends_of done q) (s : Stands x made done i m) where
   daemons_still : (acts : List Act) → are_services q acts ≡ true → DaemonStands x (acts ++ done) q k → DaemonsHold x (acts ++ done) (set i.daemons.items q (record { daemon = k; ends = ends }))
   daemons_still acts only a = λ t d there. elim (eqb_tells t q) [ inl e ↦ here t d there e.1 | inr e ↦ elsewhere t d there e.1 ] where
@@ -97,9 +98,10 @@ module _ {x : Setting} {made : Creation} {done : List Act} {i : Instance} {m : P
   service_line {n} acts only a = record {
     device = subst (λ (d : Device). device.Stands x made (acts ++ done) d n) (sym of)
         (memory_line (record i.device.memory { domain = h }) acts (services_path q acts only) s.device (memory_serves q x acts done i.device.memory m n h only s.device.memory a.domain));
-    rings = λ t. subst (λ r. RingStands (acts ++ done) t (slice_index_or r.items t None)) (sym rings)
-        (ring_stays t acts done (kept_ring i t) (services_leave q t (kept_ring i t) acts only) (s.rings t));
-    places = ap (λ r. length r.items) rings ∙ s.places;
+    drivers = λ t. subst (λ r. RequestsStand (acts ++ done) t (slice_index_or r.items t None)) (sym drivers)
+        (requests_stay t acts done (kept_driver i t) (services_leave q t (kept_ring i t) acts only) (s.drivers t));
+    places = ap (λ r. length r.items) drivers ∙ s.places;
+    owned = quiet_owned acts done made.queues (services_quiet q acts only) s.owned;
     apart = own_still done (acts ++ done) (service_ring q acts done only) s.apart;
     sizes = λ t. subst (λ l. num_of l t ≤ 32768) (sym (service_state q acts done only)) (s.sizes t);
     daemons = subst (λ (l : List HeldDaemon). DaemonsHold x (acts ++ done) l) (sym placed) (daemons_still acts only a.daemon);

@@ -24,8 +24,9 @@ use Rattle.vd_memory_lines.specs.declared.memory.Memory.{Memory as Store}
 use Rattle.vd_memory_lines.specs.Stands as memory
 use Rattle.vd_memory_lines.specs.Stands.{IsInside}
 use Rattle.vd_memory_lines.proofs.Parts.{stay_inside}
-use Rattle.vd_ring_lines.specs.declared.held.HeldRing.{HeldRing}
-use Rattle.vd_ring_lines.specs.Stands.{leaves_ring}
+use Rattle.vd_request_laws.specs.Owned.{is_quiet}
+use Rattle.vd_rings.specs.declared.held.HeldRing.{HeldRing}
+use Rattle.vd_rings.specs.Stands.{leaves_ring}
 use Rattle.vd_instance.proofs.Deeds.{both_of, other}
 use Rattle.vd_instance.proofs.Holding.{leaves_daemon}
 
@@ -162,6 +163,28 @@ module _ (q : ℕ) where
 
   pub services_leave : (t : ℕ) (kept : Option HeldRing) (acts : List Act) → are_services q acts ≡ true → list_all (leaves_ring t kept) acts ≡ true
   services_leave t kept acts e = all_of (is_service q) (leaves_ring t kept) (on_rings t kept) acts e
+
+  -- and what pending requests have
+  is_quiet_service : (act : Act) → is_service q act ≡ true → is_quiet act ≡ true
+  is_quiet_service (Node act) e = refl
+  is_quiet_service (Disk_act act) e = refl
+  is_quiet_service (Queue act) e = by act e where
+    by : (act : QueueAct) → is_request_step q act ≡ true → is_quiet (Queue act) ≡ true
+    by (Fetched k) e = refl
+    by (Executed k status bytes) e = refl
+    by (Finished k) e = refl
+    by (Ring_made k place region) e = no e
+    by (Ring_dropped k) e = no e
+    by (Chain_added k chain) e = no e
+    by (Chains_published k) e = no e
+    by (Chain_reclaimed k head) e = no e
+  is_quiet_service (Driver act) e = no e
+  is_quiet_service (Bus act) e = no e
+  is_quiet_service (Message_act act) e = no e
+  is_quiet_service (State act) e = no e
+
+  pub services_quiet : (acts : List Act) → are_services q acts ≡ true → list_all is_quiet acts ≡ true
+  services_quiet acts e = all_of (is_service q) is_quiet is_quiet_service acts e
 
   -- the daemons of other queues
   on_daemons : (t : ℕ) → (t ≡ q → ⊥) → (act : Act) → is_service q act ≡ true → leaves_daemon t act ≡ true

@@ -29,8 +29,9 @@ with_domain : {x : Setting} {made : Creation} {done : List Act} {i : Instance} {
     → Stands x made done (record i { device = record i.device { memory = record i.device.memory { domain = h } } }) n
 with_domain h s stands = record {
   device = record { path = s.device.path; memory = record { domain = stands; buffers = s.device.memory.buffers; inside = s.device.memory.inside } };
-  rings = s.rings;
+  drivers = s.drivers;
   places = s.places;
+  owned = s.owned;
   apart = s.apart;
   sizes = s.sizes;
   daemons = s.daemons;

@@ -3,5 +3,6 @@ pub mod Daemons
 pub mod Flushes
 pub mod Image
 pub mod Lines
-pub mod Rings
+pub mod Drivers
 pub mod Stands
+pub mod Rest

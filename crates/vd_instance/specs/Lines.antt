@@ -1,15 +1,14 @@
--- The driver's lines on a ring that a queue has, and which line on the device frees the region of a ring.
+-- The driver's lines on a ring that a queue has, and which line on the device takes what belongs to a queue.
 use Rattle.std.specs.Prelude.{ℕ, ◌<◌, List, length, Bool, false, ◌&&◌}
 use Rattle.vd_model.specs.Creation.{Creation}
 use Rattle.vd_model.specs.Setting.{Setting}
 use Rattle.vd_model.specs.Acts.{Act}
 use Rattle.vd_model.specs.Live.{is_attached}
 use Rattle.vd_model.specs.Turn.{Turn}
-use Rattle.vd_model.specs.Queues.{is_ring_region}
+use Rattle.vd_model.specs.History.{is_kept}
 use Rattle.vd_model.specs.RingTurns.{unring_turn, add_turn, publish_turn, poll_turn}
 use Rattle.vd_model.specs.declared.step.DevStep.{DevStep}
 use Rattle.vd_model.specs.declared.step.DevStep.TheVariants.{Driver}
-use Rattle.vd_model.specs.declared.step.DriverStep.TheVariants.{FreeCoherent}
 use Rattle.vd_model.specs.DaemonTurns.{fetch_turn, finish_turn}
 use Rattle.vd_instance.specs.declared.line.RingLine.{RingLine}
 use Rattle.vd_instance.specs.declared.line.RingLine.TheVariants.{Unring, Add, Publish, Poll}
@@ -32,7 +31,7 @@ abbrev pub HasParts : RingLine → Type 0
 HasParts (Add parts) = 0 < length parts.now
 HasParts _ = Unit {0}
 
--- the line frees the region of a ring, on a device on the bus
-abbrev pub frees_ring : Creation → List Act → DevStep → Bool
-frees_ring made acts (Driver (FreeCoherent region)) = is_attached acts && is_ring_region acts region made.queues
-frees_ring made acts _ = false
+-- the line is of the driver, on a device on the bus, and takes the region of a ring, or a buffer or a mapping of a pending request
+abbrev pub takes_kept : Creation → List Act → DevStep → Bool
+takes_kept made acts (Driver step) = is_attached acts && is_kept made acts step
+takes_kept made acts _ = false

@@ -1,5 +1,5 @@
 -- A device with its queues, over the pool that its frames were taken from, stands for the acts that were done to it.
-use Rattle.std.specs.Prelude.{ℕ, ◌≡◌, ◌≤◌, ◌++◌, List, length, Option, Some, None, slice_index_or}
+use Rattle.std.specs.Prelude.{ℕ, ◌≡◌, ◌≤◌, ◌*◌, ◌++◌, List, length, Option, Some, None, slice_index_or}
 use Rattle.vd_pool.specs.Memory.{PoolMemory as Pool}
 use Rattle.vd_bounce.specs.Frames.{Holds, Keeps}
 use Rattle.vd_model.specs.Setting.{Setting}
@@ -8,24 +8,32 @@ use Rattle.vd_model.specs.Acts.{Act, state_acts}
 use Rattle.vd_model.specs.State.{num_of}
 use Rattle.vd_model.specs.Queues.{Ring, ring_of}
 use Rattle.vd_device.specs.Stands as device
-use Rattle.vd_ring_lines.specs.declared.held.HeldRing.{HeldRing}
-use Rattle.vd_ring_lines.specs.Stands.{RingStands}
+use Rattle.vd_rings.specs.declared.held.HeldRing.{HeldRing}
+use Rattle.vd_request_laws.specs.Owned.{AreOwned}
+use Rattle.vd_request_lines.specs.declared.held.HeldDriver.{HeldDriver}
+use Rattle.vd_request_lines.specs.Stands.{RequestsStand, ring_in}
 use Rattle.vd_instance.specs.declared.instance.Instance.{Instance}
 use Rattle.vd_instance.specs.Daemons.{DaemonsHold, AreNamed}
 
--- what is kept of the ring of a queue, if it has one
+-- what is kept of the driver's side of a queue, if it has a ring
+abbrev pub kept_driver : Instance → ℕ → Option HeldDriver
+kept_driver i q = slice_index_or i.drivers.items q None
+
+-- and its ring alone
 abbrev pub kept_ring : Instance → ℕ → Option HeldRing
-kept_ring i q = slice_index_or i.rings.items q None
+kept_ring i q = ring_in (kept_driver i q)
 
 -- no two queues have their rings in one region
 abbrev pub HaveOwnRegions : List Act → Type 0
 HaveOwnRegions acts = (q k : ℕ) (r s : Ring) → ring_of acts q ≡ Some r → ring_of acts k ≡ Some s → r.region ≡ s.region → q ≡ k
 
--- there are a place for the ring and a daemon of each queue, and each queue has a size that a driver may choose
+-- there are a place for the driver's side and a daemon of each queue, what pending requests have is their own, and each queue
+-- has a size that a driver may choose
 pub record Stands (x : Setting) (made : Creation) (acts : List Act) (i : Instance) (m : Pool) : Type 0 where
   pub device : device.Stands x made acts i.device m
-  pub rings : (q : ℕ) → RingStands acts q (kept_ring i q)
-  pub places : length i.rings.items ≡ made.queues
+  pub drivers : (q : ℕ) → RequestsStand acts q (kept_driver i q)
+  pub places : length i.drivers.items ≡ made.queues
+  pub owned : AreOwned acts made.queues
   pub apart : HaveOwnRegions acts
   pub sizes : (q : ℕ) → num_of (state_acts acts) q ≤ 32768
   pub daemons : DaemonsHold x acts i.daemons.items
@@ -50,9 +58,9 @@ pub record IsHeld (i : Instance) (m : Pool) : Type 0 where
   pub holds : Holds (frames i) m
   pub size : m.per_page ≡ page_size i
 
--- no count is above this number
+-- after so many lines no count is above four times this number: a request has up to four mappings
 abbrev pub IsWithin : ℕ → Instance → Type 0
-IsWithin most i = device.IsWithin most i.device
+IsWithin most i = device.IsWithin (4 * most) i.device
 
 -- it stands for these acts after those before
 abbrev pub After : Setting → Creation → List Act → Instance → Pool → List Act → Type 0

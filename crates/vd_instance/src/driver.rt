@@ -1,56 +1,66 @@
-//! The driver's lines on a queue's ring, which need a device on the bus.
+//! The driver's lines on a queue, which need a device on the bus.
 
-ghost use Rattle.std.specs.Prelude.{◌≡◌, ◌<◌, ◌^◌, ℕ, List};
+ghost use Rattle.std.specs.Prelude.{◌≡◌, ◌+◌, ◌-◌, ◌<◌, ◌≤◌, ◌^◌, ◌==◌, ◌∷◌, ℕ, List, Some};
 ghost use Rattle.vd_pool.specs.Memory.{PoolMemory};
 ghost use Rattle.vd_model.specs.Setting.{Setting};
 ghost use Rattle.vd_model.specs.Creation.{Creation};
 ghost use Rattle.vd_model.specs.Acts.{Act};
 ghost use Rattle.vd_model.specs.History.{needs_bus};
-ghost use Rattle.vd_model.specs.RingTurns.{ring_turn, add_turn};
+ghost use Rattle.vd_model.specs.RingTurns.{ring_turn, add_turn, submit_turn};
 ghost use Rattle.vd_answers.specs.Tells.{Tells, MayTell};
-ghost use Rattle.vd_memory_lines.specs.Rest.{KeepsFrames};
-ghost use Rattle.vd_ring_lines.specs.Known.{IsKnown};
+ghost use Rattle.vd_request_lines.specs.Known.{IsKnown};
+ghost use Rattle.vd_request_lines.specs.Asking.{wants_made_buffer};
 
+use crate::drivers::owns_buffer;
 use crate::instance::Instance;
-use crate::known::{has_event_idx, known};
+use crate::known::known;
 use crate::line::RingLine;
 use std::alloc::AllocError;
 use vd_answers::Hears;
-use vd_model::Part;
+use vd_model::{Part, SubmitForm};
 use vd_num::Errno;
-use vd_ring_lines::{KnownQueue, RingWanted, ring};
+use vd_pool::Pool;
+use vd_request_lines::{KnownDriver, RequestWanted, RingWanted, ring, submit};
 
 impl Instance {
     ghost use Rattle.vd_instance.specs.Lines.{ring_line_turn, HasParts};
-    ghost use Rattle.vd_instance.specs.Stands.{Stands, After, IsNamed, IsReached};
+    ghost use Rattle.vd_instance.specs.Rest.{KeepsDriver};
+    ghost use Rattle.vd_instance.specs.Stands.{Stands, After, IsHeld, IsNamed, IsReached, IsWithin};
 
-    /// What is known of a queue, and of the events of its ring.
-    fn known_queue(&self, queue: u32) -> KnownQueue
+    /// What is known of a queue, and which features the driver accepted.
+    fn known_driver(&self, queue: u32) -> KnownDriver
         ensures { (x : Setting) (made : Creation) (acts : List Act) (m : PoolMemory) → Stands x made acts self.now m → IsKnown made acts queue result }
     {
-        KnownQueue {
+        KnownDriver {
             info: known(&self.device.path.state, queue),
-            event_idx: has_event_idx(self.device.path.state.features()),
+            features: self.device.path.state.features(),
         }
     }
 
     /// Answers a line on the ring that a queue has.
-    pub(crate) fn on_ring<T: Hears>(&mut self, queue: u32, line: RingLine<'_>, told: &mut T)
+    pub(crate) fn on_ring<T: Hears>(
+        &mut self,
+        pool: &mut Pool,
+        queue: u32,
+        line: RingLine<'_>,
+        told: &mut T,
+    )
         requires ready { T.is_ready told.old }
         requires some { HasParts line }
-        requires reached { (m : PoolMemory) × IsReached self.old m }
-        ensures line { (x : Setting) (made : Creation) (acts : List Act) (m : PoolMemory) → Stands x made acts self.old m
-            → Tells (λ said. T.heard told.old said told.new) (needs_bus acts (ring_line_turn x made acts queue line.entry)) (After x made acts self.new m) }
-        ensures rest { KeepsFrames self.old.device.memory self.new.device.memory }
-        ensures path { self.new.device.path ≡ self.old.device.path }
+        requires held { IsHeld self.old pool.old }
+        requires reached { IsReached self.old pool.old }
+        requires room { IsWithin (2 ^ 59) self.old }
+        ensures line { (x : Setting) (made : Creation) (acts : List Act) → Stands x made acts self.old pool.old
+            → Tells (λ said. T.heard told.old said told.new) (needs_bus acts (ring_line_turn x made acts queue line.entry)) (After x made acts self.new pool.new) }
+        ensures rest { KeepsDriver self.old self.new pool.old pool.new }
         ensures named { (name : List ℕ) → IsNamed name self.old → IsNamed name self.new }
     {
         if !self.device.path.attached {
             return told.refused(Errno::Nodev);
         }
-        let known = self.known_queue(queue);
-        match self.rings.get_mut(queue as usize) {
-            Some(kept) => line.answer(told, &mut self.device.memory.domain, kept, &known),
+        let known = self.known_driver(queue);
+        match self.drivers.get_mut(queue as usize) {
+            Some(kept) => line.answer(told, &mut self.device.memory, pool, kept, &known),
             // There is no such queue.
             None => told.refused(Errno::Inval),
         }
@@ -64,25 +74,24 @@ impl Instance {
         told: &mut T,
     ) -> Result<(), AllocError>
         requires ready { T.is_ready told.old }
-        requires room { self.old.device.memory.domain.made < 2 ^ 62 }
+        requires room { IsWithin (2 ^ 59) self.old }
         ensures line { (x : Setting) (made : Creation) (acts : List Act) (m : PoolMemory) → Stands x made acts self.old m
             → MayTell (λ said. T.heard told.old said told.new) (needs_bus acts (ring_turn x made acts queue size)) (After x made acts self.new m) result }
-        ensures rest { KeepsFrames self.old.device.memory self.new.device.memory }
-        ensures path { self.new.device.path ≡ self.old.device.path }
+        ensures rest { (m : PoolMemory) → IsHeld self.old m → KeepsDriver self.old self.new m m }
         ensures named { (name : List ℕ) → IsNamed name self.old → IsNamed name self.new }
     {
         if !self.device.path.attached {
             told.refused(Errno::Nodev);
             return Ok(());
         }
-        let known = self.known_queue(queue);
+        let known = self.known_driver(queue);
         let wanted = RingWanted {
             queue: known,
             size,
             alloc: self.device.memory.alloc,
         };
-        match self.rings.get_mut(queue as usize) {
-            Some(kept) => ring(told, &mut self.device.memory.domain, kept, &wanted),
+        match self.drivers.get_mut(queue as usize) {
+            Some(kept) => ring(told, &mut self.device.memory, kept, &wanted),
             // There is no such queue.
             None => {
                 told.refused(Errno::Inval);
@@ -94,23 +103,73 @@ impl Instance {
     /// Adds a chain to the ring that a queue has.
     pub(crate) fn add<T: Hears>(
         &mut self,
+        pool: &mut Pool,
         queue: u32,
         parts: &[Part],
         told: &mut T,
     ) -> Result<(), AllocError>
         requires ready { T.is_ready told.old }
-        requires reached { (m : PoolMemory) × IsReached self.old m }
-        ensures line { (x : Setting) (made : Creation) (acts : List Act) (m : PoolMemory) → Stands x made acts self.old m
-            → MayTell (λ said. T.heard told.old said told.new) (needs_bus acts (add_turn made acts queue parts.now)) (After x made acts self.new m) result }
-        ensures rest { KeepsFrames self.old.device.memory self.new.device.memory }
-        ensures path { self.new.device.path ≡ self.old.device.path }
+        requires held { IsHeld self.old pool.old }
+        requires reached { IsReached self.old pool.old }
+        requires room { IsWithin (2 ^ 59) self.old }
+        ensures line { (x : Setting) (made : Creation) (acts : List Act) → Stands x made acts self.old pool.old
+            → MayTell (λ said. T.heard told.old said told.new) (needs_bus acts (add_turn made acts queue parts.now)) (After x made acts self.new pool.new) result }
+        ensures rest { KeepsDriver self.old self.new pool.old pool.new }
         ensures named { (name : List ℕ) → IsNamed name self.old → IsNamed name self.new }
     {
         // A line has some parts, so none of them is answered so.
         if parts.is_empty() {
             return Err(AllocError);
         }
-        self.on_ring(queue, RingLine::Add(parts), told);
+        self.on_ring(pool, queue, RingLine::Add(parts), told);
         Ok(())
+    }
+
+    /// Whether a pending request made the buffer that a request is to map.
+    fn wants_made_buffer(&self, form: &SubmitForm) -> bool
+        ensures { (x : Setting) (made : Creation) (acts : List Act) (m : PoolMemory) → Stands x made acts self.now m → result ≡ wants_made_buffer made acts form.now }
+    {
+        match form {
+            SubmitForm::Read { buffer, .. } => owns_buffer(&self.drivers, *buffer),
+            SubmitForm::Write { buffer, .. } => owns_buffer(&self.drivers, *buffer),
+            SubmitForm::Flush => false,
+            SubmitForm::Id { buffer, .. } => owns_buffer(&self.drivers, *buffer),
+        }
+    }
+
+    /// Places a block request on a queue that has a ring.
+    pub(crate) fn submit<T: Hears>(
+        &mut self,
+        pool: &mut Pool,
+        queue: u32,
+        form: &SubmitForm,
+        told: &mut T,
+    ) -> Result<(), AllocError>
+        requires ready { T.is_ready told.old }
+        requires held { IsHeld self.old pool.old }
+        requires reached { IsReached self.old pool.old }
+        requires room { IsWithin (2 ^ 59) self.old }
+        ensures line { (x : Setting) (made : Creation) (acts : List Act) → Stands x made acts self.old pool.old
+            → MayTell (λ said. T.heard told.old said told.new) (needs_bus acts (submit_turn x made acts queue form.now)) (After x made acts self.new pool.new) result }
+        ensures rest { KeepsDriver self.old self.new pool.old pool.new }
+        ensures named { (name : List ℕ) → IsNamed name self.old → IsNamed name self.new }
+    {
+        if !self.device.path.attached {
+            told.refused(Errno::Nodev);
+            return Ok(());
+        }
+        let wanted = RequestWanted {
+            queue: self.known_driver(queue),
+            form: *form,
+            busy: self.wants_made_buffer(form),
+        };
+        match self.drivers.get_mut(queue as usize) {
+            Some(kept) => submit(told, &mut self.device.memory, pool, kept, &wanted),
+            // There is no such queue.
+            None => {
+                told.refused(Errno::Inval);
+                Ok(())
+            }
+        }
     }
 }

@@ -15,12 +15,12 @@ ghost use Rattle.vd_device.specs.Sizes.{AreFit, IsSized};
 ghost use Rattle.vd_device.specs.Stands as kept;
 
 use crate::daemons::{HeldDaemon, new_daemons};
-use crate::rings::no_rings;
+use crate::drivers::no_drivers;
 use std::alloc::{AllocError, Global};
 use vd_device::{Device, Sizes};
 use vd_num::Bytes;
 use vd_pool::Pool;
-use vd_ring_lines::HeldRing;
+use vd_request_lines::HeldDriver;
 
 /// The features of a device that is made ready: VERSION_1, ACCESS_PLATFORM, FLUSH, INDIRECT_DESC and EVENT_IDX.
 const FEATURES: u64 = 0x3_3000_0200;
@@ -53,11 +53,11 @@ pub struct Offer {
     pub config: Bytes,
 }
 
-/// A device, and a place for the ring and the block daemon's side of each of its queues. It holds frames of a pool, so it
+/// A device, and a place for the driver's and the block daemon's side of each of its queues. It holds frames of a pool, so it
 /// can't be dropped.
 pub struct Instance {
     pub device: Device,
-    pub rings: Vec<Option<HeldRing>>,
+    pub drivers: Vec<Option<HeldDriver>>,
     pub daemons: Vec<HeldDaemon>,
 }
 
@@ -83,12 +83,12 @@ impl Instance {
             queues,
             config,
         } = offer;
-        let rings = no_rings(alloc, queues)?;
+        let drivers = no_drivers(alloc, queues)?;
         let daemons = new_daemons(alloc, name, queues)?;
         let device = Device::new(alloc, features, queues, config, sizes)?;
         Ok(Instance {
             device,
-            rings,
+            drivers,
             daemons,
         })
     }
@@ -103,13 +103,13 @@ impl Instance {
         ensures named { IfOk result (λ i. IsNamed name.now i) }
     {
         let config = Bytes::from_vec(vec![in alloc; 0; CONFIG_LEN]?);
-        let rings = no_rings(alloc, 1)?;
+        let drivers = no_drivers(alloc, 1)?;
         let daemons = new_daemons(alloc, name, 1)?;
         let mut device = Device::new(alloc, FEATURES, 1, config, sizes)?;
         make_ready(&mut device);
         Ok(Instance {
             device,
-            rings,
+            drivers,
             daemons,
         })
     }
@@ -140,7 +140,7 @@ impl Instance {
     {
         let Instance {
             device,
-            rings: _,
+            drivers: _,
             daemons: _,
         } = self;
         device.discard(pool);

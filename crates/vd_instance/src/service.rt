@@ -42,7 +42,7 @@ impl Instance {
 
     /// How many positions of the block daemon ended on a queue that is there.
     fn ends(&self, queue: u32) -> u64
-        requires room { IsWithin (2 ^ 62 - 1) self.now }
+        requires room { IsWithin (2 ^ 59) self.now }
         ensures { (x : Setting) (made : Creation) (acts : List Act) (m : PoolMemory) → Stands x made acts self.now m
             → is_missing made queue ≡ false → result ≡ ends_of acts queue }
     {
@@ -72,7 +72,7 @@ impl Instance {
         requires ready { T.is_ready told.old }
         requires held { IsHeld self.old pool.old }
         requires reached { IsReached self.old pool.old }
-        requires room { IsWithin (2 ^ 62 - 1) self.old }
+        requires room { IsWithin (2 ^ 59) self.old }
         ensures line { (x : Setting) (made : Creation) (acts : List Act) → Stands x made acts self.old pool.old
             → MayTell (λ said. T.heard told.old said told.new) (needs_session acts (daemon_line_turn x made acts queue line))
             (After x made acts self.new pool.new) result }
@@ -115,7 +115,7 @@ impl Instance {
         told: &mut T,
     ) -> bool
         requires ready { T.is_ready told.old }
-        requires room { IsWithin (2 ^ 62 - 1) self.old }
+        requires room { IsWithin (2 ^ 59) self.old }
         requires window { window.first + window.count ≤ I.size disk.old }
         ensures line { (x : Setting) (made : Creation) (name : List ℕ) (seen : Seen) (m : PoolMemory) → Stands x made seen.acts self.old m
             → IsNamed name self.old → IsWindow (I.content disk.old) window seen

@@ -9,14 +9,13 @@ ghost use Rattle.vd_model.specs.Setting.{Setting};
 ghost use Rattle.vd_model.specs.Creation.{Creation};
 ghost use Rattle.vd_model.specs.Acts.{Act};
 ghost use Rattle.vd_model.specs.Deeds.{Seen};
-ghost use Rattle.vd_model.specs.History.{dev_turn, queue_turn};
-ghost use Rattle.vd_output.specs.Served.{queue_served};
+ghost use Rattle.vd_model.specs.History.{dev_turn, queue_turn, is_kept};
 ghost use Rattle.vd_answers.specs.Tells.{MayTell};
 ghost use Rattle.vd_device.specs.Frugal.{takes_no_memory};
 
+use crate::drivers::{has_region, owns_buffer, owns_map};
 use crate::instance::Instance;
 use crate::line::RingLine;
-use crate::rings::has_region;
 use crate::service::DaemonLine;
 use std::alloc::AllocError;
 use vd_answers::Hears;
@@ -36,27 +35,28 @@ impl Instance {
     ghost use Rattle.vd_daemon_lines.specs.Disk.{stored_over};
     ghost use Rattle.vd_instance.specs.Image.{IsWindow, Plays, is_execute};
     ghost use Rattle.vd_instance.specs.Flushes.{is_flush};
-    ghost use Rattle.vd_instance.specs.Lines.{frees_ring};
+    ghost use Rattle.vd_instance.specs.Lines.{takes_kept};
     ghost use Rattle.vd_instance.specs.Stands.{Stands, StandsForMore, After, IsHeld, IsReached, IsNamed, IsWithin, KeepsOthers};
 
-    /// Whether a line of the driver frees the region of a ring, on a device on the bus.
-    fn driver_frees_ring(&self, step: &DriverStep<'_>) -> bool
-        ensures { (x : Setting) (made : Creation) (acts : List Act) (m : PoolMemory) → Stands x made acts self.now m → result ≡ frees_ring made acts (Driver step.now) }
+    /// Whether a line of the driver on a device on the bus is on what belongs to a queue: the region of a ring, and a buffer or
+    /// a mapping of a pending request.
+    fn is_kept(&self, step: &DriverStep<'_>) -> bool
+        ensures { (x : Setting) (made : Creation) (acts : List Act) (m : PoolMemory) → Stands x made acts self.now m → result ≡ is_kept made acts step.now }
     {
         match step {
-            DriverStep::FreeCoherent { region } => {
-                self.device.path.attached && has_region(&self.rings, *region)
-            }
+            DriverStep::Map { buffer, .. } => owns_buffer(&self.drivers, *buffer),
+            DriverStep::Unmap { mapping } => owns_map(&self.drivers, *mapping),
+            DriverStep::FreeCoherent { region } => has_region(&self.drivers, *region),
             _ => false,
         }
     }
 
-    /// Whether a line frees the region of a ring, which isn't the driver's to free, on a device on the bus.
-    fn frees_ring(&self, step: &DevStep<'_>) -> bool
-        ensures { (x : Setting) (made : Creation) (acts : List Act) (m : PoolMemory) → Stands x made acts self.now m → result ≡ frees_ring made acts step.now }
+    /// The same of any line on the device.
+    fn takes_kept(&self, step: &DevStep<'_>) -> bool
+        ensures { (x : Setting) (made : Creation) (acts : List Act) (m : PoolMemory) → Stands x made acts self.now m → result ≡ takes_kept made acts step.now }
     {
         match step {
-            DevStep::Driver(line) => self.driver_frees_ring(line),
+            DevStep::Driver(line) => self.device.path.attached && self.is_kept(line),
             _ => false,
         }
     }
@@ -72,7 +72,7 @@ impl Instance {
         requires ready { T.is_ready told.old }
         requires held { IsHeld self.old pool.old }
         requires reached { IsReached self.old pool.old }
-        requires room { IsWithin (2 ^ 62 - 1) self.old }
+        requires room { IsWithin (2 ^ 59) self.old }
         ensures line { (x : Setting) (made : Creation) (seen : Seen) → Stands x made seen.acts self.old pool.old → seen.now ≡ now
             → MayTell (λ said. T.heard told.old said told.new) (dev_turn x made seen step.now) (After x made seen.acts self.new pool.new) result }
         ensures rest { KeepsOthers self.old self.new pool.old pool.new }
@@ -80,7 +80,7 @@ impl Instance {
         ensures named { (name : List ℕ) → IsNamed name self.old → IsNamed name self.new }
         ensures frugal { takes_no_memory step.now ≡ true → IsOk result }
     {
-        if self.frees_ring(step) {
+        if self.takes_kept(step) {
             told.refused(Errno::Busy);
             return Ok(());
         }
@@ -97,8 +97,7 @@ impl Instance {
         requires ready { T.is_ready told.old }
         requires held { IsHeld self.old pool.old }
         requires reached { IsReached self.old pool.old }
-        requires room { IsWithin (2 ^ 62 - 1) self.old }
-        requires served { queue_served step.now ≡ true }
+        requires room { IsWithin (2 ^ 59) self.old }
         requires plain { is_execute step.now ≡ false }
         ensures line { (x : Setting) (made : Creation) (name : List ℕ) (seen : Seen) → Stands x made seen.acts self.old pool.old
             → MayTell (λ said. T.heard told.old said told.new) (queue_turn x made name seen false step.now) (After x made seen.acts self.new pool.new) result }
@@ -110,21 +109,22 @@ impl Instance {
             QueueStep::Walk { queue, head } => self.walk(pool, *queue, *head, told),
             QueueStep::Ring { queue, size } => self.make_ring(*queue, *size, told),
             QueueStep::Unring { queue } => {
-                self.on_ring(*queue, RingLine::Unring, told);
+                self.on_ring(pool, *queue, RingLine::Unring, told);
                 Ok(())
             }
-            QueueStep::Add { queue, parts } => self.add(*queue, parts.as_slice(), told),
+            QueueStep::Add { queue, parts } => self.add(pool, *queue, parts.as_slice(), told),
             QueueStep::Publish { queue } => {
-                self.on_ring(*queue, RingLine::Publish, told);
+                self.on_ring(pool, *queue, RingLine::Publish, told);
                 Ok(())
             }
             QueueStep::Poll { queue } => {
-                self.on_ring(*queue, RingLine::Poll, told);
+                self.on_ring(pool, *queue, RingLine::Poll, told);
                 Ok(())
             }
             QueueStep::Fetch { queue } => self.on_daemon(pool, *queue, DaemonLine::Fetch, told),
             QueueStep::Finish { queue } => self.on_daemon(pool, *queue, DaemonLine::Finish, told),
-            QueueStep::Execute { .. } | QueueStep::Submit { .. } => unreachable!(),
+            QueueStep::Submit { queue, form } => self.submit(pool, *queue, form, told),
+            QueueStep::Execute { .. } => unreachable!(),
         }
     }
 
@@ -139,8 +139,7 @@ impl Instance {
         requires ready { T.is_ready told.old }
         requires held { IsHeld self.old pool.old }
         requires reached { IsReached self.old pool.old }
-        requires room { IsWithin (2 ^ 62 - 1) self.old }
-        requires served { queue_served line.step.now ≡ true }
+        requires room { IsWithin (2 ^ 59) self.old }
         requires window { line.window.first + line.window.count ≤ I.size disk.old }
 
         // An execute is answered on an image that tells the bytes that the line sees.

@@ -3,8 +3,7 @@ use Rattle.std.specs.Prelude.{ℕ, ◌+◌, List, [], ◌∷◌, ◌++◌, ◌==
 use Rattle.std.specs.List.{list_any, take_while}
 use Rattle.vd_model.specs.declared.step.Step.{Step}
 use Rattle.vd_model.specs.Setting.{Setting}
-use Rattle.vd_model.specs.Reading.{lines}
-use Rattle.vd_output.specs.Served.{served_reading}
+use Rattle.vd_model.specs.Reading.{lines, reading}
 use Rattle.vd_model.specs.Replies.{reply_line}
 use Rattle.vd_model.specs.History.{History, reply}
 
@@ -31,7 +30,7 @@ script_lines text = if nat_le (length text) text_limit then lines text else ende
 
 -- the line is short enough and in the grammar
 abbrev pub is_good : List ℕ → Bool
-is_good line = nat_le (length line) line_limit && is_some (served_reading line)
+is_good line = nat_le (length line) line_limit && is_some (reading line)
 
 -- the lines before the one that stops the run
 abbrev pub good_lines : List ℕ → List (List ℕ)
@@ -65,7 +64,7 @@ later_of failed _ h = h
 -- the history after some lines, of which the first is line n
 unfoldable pub history_after : List ℕ → ℕ → History → List (List ℕ) → History
 history_after failures n h [] = h
-history_after failures n h (line ∷ rest) = history_after failures (n + 1) (later_of (has_failed failures n) (served_reading line) h) rest
+history_after failures n h (line ∷ rest) = history_after failures (n + 1) (later_of (has_failed failures n) (reading line) h) rest
 
 -- the reply to a line, at which the image failed or not
 abbrev pub reply_to : Bool → Setting → History → Option (Option Step) → List ℕ
@@ -76,7 +75,7 @@ reply_to failed x h _ = []
 unfoldable pub output_from : List ℕ → Setting → ℕ → History → List (List ℕ) → List ℕ
 output_from failures x n h [] = []
 output_from failures x n h (line ∷ rest) =
-    reply_to (has_failed failures n) x h (served_reading line) ++ output_from failures x (n + 1) (later_of (has_failed failures n) (served_reading line) h) rest
+    reply_to (has_failed failures n) x h (reading line) ++ output_from failures x (n + 1) (later_of (has_failed failures n) (reading line) h) rest
 
 -- what is written for a script, where the image failed at these lines
 abbrev pub script_output : Setting → List ℕ → List ℕ → List ℕ

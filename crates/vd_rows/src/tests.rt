@@ -6,6 +6,7 @@ mod edges;
 mod ends;
 mod memory;
 mod messages;
+mod requests;
 mod rings;
 
 use std::alloc::{AllocError, Global};
@@ -35,9 +36,11 @@ pub struct Case<'a> {
     pub lines_done: u64,
 }
 
-/// What fails of the outside: the calls of each of the numbers, and each that finds no room left.
+/// The outside of a run: how many sectors its image has, and what fails of it: the calls of each of the numbers, and each that
+/// finds no room left.
 #[derive(Clone, Copy)]
 pub struct Outside<'a> {
+    pub sectors: u64,
     pub pulls: &'a [u64],
     pub pushes: &'a [u64],
     pub image: &'a [u64],
@@ -46,6 +49,7 @@ pub struct Outside<'a> {
 
 /// An outside at which nothing fails.
 pub const SOUND: Outside<'static> = Outside {
+    sectors: 8,
     pulls: &[],
     pushes: &[],
     image: &[],
@@ -73,7 +77,11 @@ pub fn check(
     let mut source = MemSource::new(text, Lines::from_vec(outside.pulls.to_vec(alloc)?));
     let pushes = Lines::from_vec(outside.pushes.to_vec(alloc)?);
     let mut sink = MemSink::new(alloc, outside.room, pushes)?;
-    let mut disk = MemImage::new(alloc, 8, Lines::from_vec(outside.image.to_vec(alloc)?))?;
+    let mut disk = MemImage::new(
+        alloc,
+        outside.sectors,
+        Lines::from_vec(outside.image.to_vec(alloc)?),
+    )?;
     let exit = script_top(alloc, &words, &mut source, &mut sink, &mut disk);
     let written = str::from_utf8(sink.as_slice()).unwrap_or("no text");
     let is_due = written == case.replies;
@@ -84,6 +92,19 @@ pub fn check(
     Ok(exit.disk_failures)
 }
 
+/// The script of some lines, and the replies that are due.
+pub fn text_of(alloc: Global, lines: &[(&str, &str)]) -> Result<(String, String), AllocError> {
+    let mut script = String::new(alloc);
+    let mut replies = String::new(alloc);
+    for (line, reply) in lines {
+        script.push_str(line)?;
+        script.push('\n')?;
+        replies.push_str(reply)?;
+        replies.push('\n')?;
+    }
+    Ok((script, replies))
+}
+
 /// Runs a row to its end, and gives the lines at which the image failed.
 pub fn check_row(
     rt: &impl Abort,
@@ -91,14 +112,7 @@ pub fn check_row(
     row: &Row,
     outside: Outside<'_>,
 ) -> Result<Lines, AllocError> {
-    let mut script = String::new(alloc);
-    let mut replies = String::new(alloc);
-    for (line, reply) in row.lines {
-        script.push_str(line)?;
-        script.push('\n')?;
-        replies.push_str(reply)?;
-        replies.push('\n')?;
-    }
+    let (script, replies) = text_of(alloc, row.lines)?;
     let case = Case {
         words: row.words,
         script: script.as_str(),
@@ -110,20 +124,29 @@ pub fn check_row(
     check(rt, alloc, &case, outside, row.name)
 }
 
-/// Runs rows.
-fn check_rows(rt: &impl Abort, alloc: Global, rows: &[Row]) -> Result<(), AllocError> {
+/// Runs rows on an image of so many sectors.
+fn check_rows(
+    rt: &impl Abort,
+    alloc: Global,
+    rows: &[Row],
+    sectors: u64,
+) -> Result<(), AllocError> {
+    let outside = Outside { sectors, ..SOUND };
     for row in rows {
-        check_row(rt, alloc, row, SOUND)?;
+        check_row(rt, alloc, row, outside)?;
     }
     Ok(())
 }
 
 #[test]
 fn worked_rows(rt: HostRuntime) -> Result<(), Fail> {
-    check_rows(&rt, rt.alloc(), &memory::rows())?;
-    check_rows(&rt, rt.alloc(), &areas::rows())?;
-    check_rows(&rt, rt.alloc(), &control::rows())?;
-    check_rows(&rt, rt.alloc(), &messages::rows())?;
-    check_rows(&rt, rt.alloc(), &rings::rows())?;
+    check_rows(&rt, rt.alloc(), &memory::rows(), 8)?;
+    check_rows(&rt, rt.alloc(), &areas::rows(), 8)?;
+    check_rows(&rt, rt.alloc(), &control::rows(), 8)?;
+    check_rows(&rt, rt.alloc(), &messages::rows(), 8)?;
+    check_rows(&rt, rt.alloc(), &rings::rows(), 8)?;
+    check_rows(&rt, rt.alloc(), &requests::rows(), 64)?;
+    check_rows(&rt, rt.alloc(), &[requests::LARGEST], 2048)?;
+    check_rows(&rt, rt.alloc(), &[requests::LONGEST], 32768)?;
     Ok(())
 }

@@ -4,7 +4,7 @@ use Rattle.std.specs.List.{list_all, take_while}
 use Rattle.std.proofs.lemmas.List.{take-append-le}
 use Rattle.std.proofs.lemmas.Bool.Decides.{leb_tells}
 use Rattle.vd_model.specs.Setting.{Setting}
-use Rattle.vd_output.specs.Served.{served_reading}
+use Rattle.vd_model.specs.Reading.{reading}
 use Rattle.vd_output.specs.Out.{is_good, good_lines, script_lines, history_after}
 use Rattle.vd_lines.specs.IsAt.{IsAt, Leads, IsRead, IsTaken, StopsLong}
 use Rattle.vd_lines.specs.Ahead.{Ahead}
@@ -112,7 +112,7 @@ module _ (text : List ℕ) (lines : ℕ) (engine : Engine) (p : Player) (old now
 
   -- an execute was carried out, and there was no memory for its reply
   stop_untold : (line : List ℕ) (after : List (List ℕ)) (later : Option (List ℕ)) (new : Player) (next : Option (List ℕ)) (reached : Shown) → good_lines text ≡ g.done ++ line ∷ after
-      → Flushed p.waiting new.waiting now next → Untold (served_reading line) lines p new size content reached → PlayedTo text Memory lines engine new later old next size before reached
+      → Flushed p.waiting new.waiting now next → Untold (reading line) lines p new size content reached → PlayedTo text Memory lines engine new later old next size before reached
   stop_untold line after later new next reached are f u =
       let low = g.is_last.low in let count = g.count in
       let c = u.carried in
@@ -150,7 +150,7 @@ module _ (text : List ℕ) (lines : ℕ) (engine : Engine) (p : Player) (old now
 
   -- a line that isn't answered
   pub stop_line : (line : List ℕ) (after : List (List ℕ)) (stop : Stop) (written : ℕ) (new : Player) (later next : Option (List ℕ)) (reached : Shown) → script_lines text ≡ g.done ++ line ∷ after → length line ≤ 65536
-      → StoppedBy stop written (served_reading line) lines p new now next size content reached → Played text stop written engine new later old next size before reached
+      → StoppedBy stop written (reading line) lines p new now next size content reached → Played text stop written engine new later old next size before reached
   stop_line line after BadLine written new later next reached are short (is, none, f, u) =
       subst (λ n. PlayedTo text BadLine n engine new later old next size before reached) (sym is)
       (stop_with BadLine later new next reached (stop_bad text g.done line after are g.good (bad_line line none) short, good_are text g.done line after are g.good (bad_line line none)) f u)
@@ -210,13 +210,13 @@ module _ (text : List ℕ) (lines : ℕ) (engine : Engine) (p : Player) (reader 
   halt_memory later = stop_memory text lines engine p old now size before content g.so first.0 first.1 later
 
   pub halt_line : (line : List ℕ) (after : List (List ℕ)) (stop : Stop) (written : ℕ) (new : Player) (later next : Option (List ℕ)) (reached : Shown) → script_lines text ≡ g.so.done ++ line ∷ after → length line ≤ 65536
-      → StoppedBy stop written (served_reading line) lines p new now next size content reached → Played text stop written engine new later old next size before reached
+      → StoppedBy stop written (reading line) lines p new now next size content reached → Played text stop written engine new later old next size before reached
   halt_line line after stop written new later next reached are short stopped =
       stop_line text lines engine p old now size before content g.so first.0 first.1 line after stop written new later next reached are short stopped
 
   -- the last line is answered
   pub halt_last : (line : List ℕ) (new : Player) (later next : Option (List ℕ)) (reached : Shown) → IsRead text (g.so.done ++ line ∷ []) later → length line ≤ 65536
-      → Answered (served_reading line) lines p new now next size content reached → Played text End (lines + 1) engine new later old next size before reached
+      → Answered (reading line) lines p new now next size content reached → Played text End (lines + 1) engine new later old next size before reached
   halt_last line new later next reached read short a =
       let good = good_line line short a.carried.said in
       let are = good_next text g.so.done line [] read.lines_are g.so.good good in
@@ -225,7 +225,7 @@ module _ (text : List ℕ) (lines : ℕ) (engine : Engine) (p : Player) (reader 
 
   -- a line is answered
   pub go_on : (line : List ℕ) (new : Player) (ahead : Ahead) (later next : Option (List ℕ)) (reached : Shown) → IsAt text (g.so.done ++ line ∷ []) ahead later × Leads text g.so.done line × (length line ≤ 65536)
-      → Answered (served_reading line) lines p new now next size content reached → Playing text (lines + 1) engine new ahead later old next size before reached
+      → Answered (reading line) lines p new now next size content reached → Playing text (lines + 1) engine new ahead later old next size before reached
   go_on line new ahead later next reached (at, leads, short) a =
       let good = good_line line short a.carried.said in
       let are = good_next text g.so.done line leads.after leads.lines_are g.so.good good in

@@ -9,7 +9,7 @@ use Rattle.std.proofs.lemmas.Bool.Decides.{nat_tests, leb_tells}
 use Rattle.vd_model.specs.declared.step.Step.{Step}
 use Rattle.vd_model.specs.Setting.{Setting}
 use Rattle.vd_model.specs.History.{deeds_of}
-use Rattle.vd_output.specs.Served.{served_reading}
+use Rattle.vd_model.specs.Reading.{reading}
 use Rattle.vd_output.specs.Out.{is_good, good_lines, script_lines, has_failed, later_of, reply_to, history_after}
 use Rattle.vd_engine.specs.declared.engine.Engine.{Engine}
 use Rattle.vd_engine.specs.Image.{IsImage}
@@ -39,10 +39,10 @@ and_both true b p q = q
 and_both false b p q = p
 
 -- a line that is short enough and says something is good, and one that says nothing isn't
-pub good_line : (line : List ℕ) → length line ≤ 65536 → is_some (served_reading line) ≡ true → is_good line ≡ true
-good_line line short said = let small : nat_le (length line) 65536 ≡ true = grind (arith, nat_tests) in and_both (nat_le (length line) 65536) (is_some (served_reading line)) small said
+pub good_line : (line : List ℕ) → length line ≤ 65536 → is_some (reading line) ≡ true → is_good line ≡ true
+good_line line short said = let small : nat_le (length line) 65536 ≡ true = grind (arith, nat_tests) in and_both (nat_le (length line) 65536) (is_some (reading line)) small said
 
-pub bad_line : (line : List ℕ) → served_reading line ≡ None → is_good line ≡ false
+pub bad_line : (line : List ℕ) → reading line ≡ None → is_good line ≡ false
 bad_line line none = ap (λ o. nat_le (length line) 65536 && is_some o) none ∙ and_false (nat_le (length line) 65536) where
   and_false : (b : Bool) → (b && false) ≡ false
   and_false true = refl
@@ -77,7 +77,7 @@ pub quiet_line : (text : List ℕ) (done : List (List ℕ)) (line : List ℕ) (a
 quiet_line text done line after are good short none = by (is_execute_line line) refl where
   by : (b : Bool) → is_execute_line line ≡ b → b ≡ false
   by true e =
-      let here = good_line line short (said_of (served_reading line) e) in
+      let here = good_line line short (said_of (reading line) e) in
       absurd (true≢false (sym (executes_by text done line (take_while is_good after) (good_next text done line after are good here) e) ∙ none))
   by false e = refl
 
@@ -148,7 +148,7 @@ module _ (text : List ℕ) (lines : ℕ) (engine : Engine) (p : Player) (old now
       subst (λ l. HoldsRun x (history_after p.failures.items 1 [] l) size before content) (ap (λ k. take k g.done) g.count ∙ take-length g.done) (g.image x s i lines low (omega arith))
 
   -- ---- a line that was carried out
-  module _ (line : List ℕ) (failed : Bool) (new : Player) (after : Shown) (c : Carried (served_reading line) lines failed p new size content after) where
+  module _ (line : List ℕ) (failed : Bool) (new : Player) (after : Shown) (c : Carried (reading line) lines failed p new size content after) where
     pub here : has_failed new.failures.items (1 + length g.done) ≡ failed
     here =
         let low = g.is_last.low in let count = g.count in
@@ -169,10 +169,10 @@ module _ (text : List ℕ) (lines : ℕ) (engine : Engine) (p : Player) (old now
     pub up_to : AreUpTo (lines + 1) new.failures.items
     up_to = let low = g.is_last.low in subst (AreUpTo (lines + 1)) (sym c.failures) (up_to_more failed g.last (lines + 1) p.failures.items g.is_last.early (omega (arith, low)))
 
-    history_now : history_after new.failures.items 1 [] (g.done ++ line ∷ []) ≡ later_of failed (served_reading line) (history_after p.failures.items 1 [] g.done)
+    history_now : history_after new.failures.items 1 [] (g.done ++ line ∷ []) ≡ later_of failed (reading line) (history_after p.failures.items 1 [] g.done)
     history_now =
         history_more new.failures.items line failed g.done 1 [] here
-        ∙ ap (later_of failed (served_reading line)) (sym (history_agrees p.failures.items new.failures.items g.done 1 [] same))
+        ∙ ap (later_of failed (reading line)) (sym (history_agrees p.failures.items new.failures.items g.done 1 [] same))
 
     -- the image with what it stored
     whole : (x : Setting) → StandsFor x [] engine → IsImage x [] size before.content → HoldsRun x (history_after new.failures.items 1 [] (g.done ++ line ∷ [])) size before after
@@ -195,7 +195,7 @@ module _ (text : List ℕ) (lines : ℕ) (engine : Engine) (p : Player) (old now
         (subst (λ o. Holds x p.failures.items g.done m size before o) (sym still) (g.image x s i m low high)))
 
   -- ---- a line that was answered
-  module _ (line : List ℕ) (new : Player) (next : Option (List ℕ)) (after : Shown) (a : Answered (served_reading line) lines p new now next size content after) where
+  module _ (line : List ℕ) (new : Player) (next : Option (List ℕ)) (after : Shown) (a : Answered (reading line) lines p new now next size content after) where
     pub next_line : (b : Bool) → is_execute_line line ≡ b → Next text (lines + 1) engine (g.done ++ line ∷ []) new size before after
     next_line true e = record {
       last = lines + 1;
@@ -241,7 +241,7 @@ module _ (text : List ℕ) (lines : ℕ) (engine : Engine) (p : Player) (old now
             waits = waits_more x new.failures.items g.done a.kept old next
                 (waits_flushed x new.failures.items g.done p.waiting old now (waits_agrees p.failures.items new.failures.items g.done agree x p.waiting old now r.waits) a.kept next a.flushed)
                 line a.reply a.failed lines new.waiting a.waits g.count (here line a.failed new after a.carried)
-                (told.text ∙ ap (λ h. reply_to a.failed x h (served_reading line)) (history_agrees p.failures.items new.failures.items g.done 1 [] agree));
+                (told.text ∙ ap (λ h. reply_to a.failed x h (reading line)) (history_agrees p.failures.items new.failures.items g.done 1 [] agree));
           }
 
       abbrev pub so_more : is_good line ≡ true → SoFar text (lines + 1) engine new old next size before after

@@ -5,7 +5,7 @@ use Rattle.std.proofs.lemmas.List.{take-append-drop, take-append-le, length-take
 use Rattle.std.proofs.lemmas.Bool.Decides.{leb_tells}
 use Rattle.vd_io.specs.Told.{Pushed}
 use Rattle.vd_model.specs.Setting.{Setting}
-use Rattle.vd_output.specs.Served.{served_reading}
+use Rattle.vd_model.specs.Reading.{reading}
 use Rattle.vd_output.specs.Out.{good_lines, has_failed, reply_to, history_after, output_from, script_output}
 use Rattle.vd_top.specs.Written.{Appended, AppendedFront, replies, IsCut, AppendedCut, AppendedLines}
 use Rattle.vd_top.specs.Replies.{Replies, IsReplyAdded, Cut, Flushed, line_at}
@@ -65,7 +65,7 @@ waits_first x failures waiting held none = record {
 module _ (x : Setting) (failures : List ℕ) (done : List (List ℕ)) (waiting : Replies) (old now : Option (List ℕ)) (w : Waits x failures done waiting old now) where
   -- the reply to a line more waits
   module _ (line reply : List ℕ) (failed : Bool) (lines : ℕ) (later : Replies) (a : IsReplyAdded reply lines waiting later) (count : lines ≡ length done)
-      (here : has_failed failures (1 + length done) ≡ failed) (is : reply ≡ reply_to failed x (history_after failures 1 [] done) (served_reading line)) where
+      (here : has_failed failures (1 + length done) ≡ failed) (is : reply ≡ reply_to failed x (history_after failures 1 [] done) (reading line)) where
     more_all : w.front ++ later.bytes ≡ output_from failures x 1 [] (done ++ line ∷ [])
     more_all =
         ap (λ t. w.front ++ t) a.bytes ∙ sym (append_assoc w.front waiting.bytes reply) ∙ ap (λ t. t ++ reply) w.all

@@ -3,7 +3,7 @@ use Rattle.std.specs.Prelude.{ℕ, zero, suc, ◌<◌, ◌≤◌, ◌≡◌, Lis
 use Rattle.std.specs.List.{list_any}
 use Rattle.std.specs.Option.{option_map_or}
 use Rattle.vd_model.specs.declared.step.Step.{Step}
-use Rattle.vd_output.specs.Served.{served_reading}
+use Rattle.vd_model.specs.Reading.{reading}
 use Rattle.vd_output.specs.Out.{good_lines, has_failed}
 use Rattle.vd_engine.specs.Frugal.{is_execution}
 
@@ -13,7 +13,7 @@ asks_execution (Some (Some step)) = is_execution step
 asks_execution _ = false
 
 abbrev pub is_execute_line : List ℕ → Bool
-is_execute_line line = asks_execution (served_reading line)
+is_execute_line line = asks_execution (reading line)
 
 -- one of these lines does
 abbrev pub any_executes : List (List ℕ) → Bool

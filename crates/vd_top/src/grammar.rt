@@ -1,18 +1,17 @@
-//! The grammar of scripts, of which the served line forms are read.
+//! The grammar of scripts.
 
 ghost use Rattle.std.specs.Prelude.{IfOk};
-ghost use Rattle.vd_output.specs.Served.{served_reading};
+ghost use Rattle.vd_model.specs.Reading.{reading};
 ghost use Rattle.vd_top.specs.Played.{Says};
 
 use std::alloc::{AllocError, Global};
 use vd_model::Step;
-use vd_output::served;
 use vd_script::LineError;
 
 /// What a line of a script asks.
 #[derive(Drop)]
 pub enum Line<'a> {
-    /// It isn't in the grammar, or its form isn't served.
+    /// It isn't in the grammar.
     Bad,
     /// It is empty or a comment.
     Nothing,
@@ -26,17 +25,11 @@ pub fn read_line<'a>(
     scratch: &'a mut Vec<u8>,
     line: &'a [u8],
 ) -> Result<Line<'a>, AllocError>
-    ensures { IfOk result (λ l. Says l (served_reading line.now)) }
+    ensures { IfOk result (λ l. Says l (reading line.now)) }
 {
     match vd_script::read_line(alloc, scratch, line) {
         Ok(None) => Ok(Line::Nothing),
-        Ok(Some(step)) => {
-            if served(&step) {
-                Ok(Line::Asks(step))
-            } else {
-                Ok(Line::Bad)
-            }
-        }
+        Ok(Some(step)) => Ok(Line::Asks(step)),
         Err(LineError::Bad) => Ok(Line::Bad),
         Err(LineError::Memory) => Err(AllocError),
     }

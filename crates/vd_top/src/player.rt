@@ -3,7 +3,6 @@
 ghost use Rattle.std.specs.Prelude.{◌≡◌, ◌<◌, ◌≤◌, ◌^◌, ◌+◌, ℕ, [], ◌∷◌, OnErr, OnOk, IfErr, MatchResult, Some, true, false, vec_len, vec_capacity, length};
 ghost use Rattle.vd_io.specs.Told.{Rose};
 ghost use Rattle.vd_model.specs.Setting.{Setting};
-ghost use Rattle.vd_output.specs.Served.{served};
 ghost use Rattle.vd_replies.specs.Adds.{HasRoom};
 ghost use Rattle.vd_device.specs.Sizes.{AreFit, IsSized};
 ghost use Rattle.vd_engine.specs.Machine.{StandsFor, IsReached};
@@ -168,7 +167,6 @@ impl Player {
         requires few { lines < 2 ^ 62 }
         requires room { self.old.engine.asked < 2 ^ 40 }
         requires reached { IsReached self.old.engine }
-        requires served { served step.now ≡ true }
         requires disk { I.size disk.old ≡ self.old.engine.sectors }
         ensures answered { MatchResult result
             (λ _. Answered (Some (Some step.now)) lines self.old self.new (K.held sink.old) (K.held sink.new) (I.size disk.old) (shown I.content I.flushes disk.old) (shown I.content I.flushes disk.new))

@@ -3,7 +3,7 @@
 ghost use Rattle.std.specs.Prelude.{◌≡◌, ◌<◌, ◌≤◌, ◌^◌, ◌+◌, ℕ, List, [], OnOk, IsErr, IfErr, MatchResult, Some, true, false, length};
 ghost use Rattle.vd_io.specs.Told.{Rose};
 ghost use Rattle.vd_model.specs.Setting.{Setting};
-ghost use Rattle.vd_output.specs.Served.{served_reading};
+ghost use Rattle.vd_model.specs.Reading.{reading};
 ghost use Rattle.vd_device.specs.Sizes.{AreFit, IsSized};
 ghost use Rattle.vd_engine.specs.Machine.{StandsFor, IsReached};
 ghost use Rattle.vd_top.specs.Executes.{RoseBy, executes, is_execute_line};
@@ -75,9 +75,9 @@ impl Responder {
         requires reached { IsReached self.old.player.engine }
         requires disk { I.size disk.old ≡ self.old.player.engine.sectors }
         ensures answered { MatchResult result
-            (λ _. Answered (served_reading line.now) lines self.old.player self.new.player (K.held sink.old) (K.held sink.new)
+            (λ _. Answered (reading line.now) lines self.old.player self.new.player (K.held sink.old) (K.held sink.new)
             (I.size disk.old) (shown I.content I.flushes disk.old) (shown I.content I.flushes disk.new))
-            (λ p. StoppedBy p.stop p.lines (served_reading line.now) lines self.old.player self.new.player (K.held sink.old) (K.held sink.new)
+            (λ p. StoppedBy p.stop p.lines (reading line.now) lines self.old.player self.new.player (K.held sink.old) (K.held sink.new)
             (I.size disk.old) (shown I.content I.flushes disk.old) (shown I.content I.flushes disk.new)) }
         ensures reached { IsReached self.new.player.engine }
         ensures asked { self.new.player.engine.asked ≤ self.old.player.engine.asked + 1 }

@@ -2,7 +2,7 @@ use Rattle.std.proofs.Common.{◌≤◌, ◌+◌, ◌++◌, ◌∷◌, [], Ok, E
 use Rattle.vd_lines.specs.Ahead.{Ahead}
 use Rattle.vd_lines.specs.IsAt.{IsNext, IsRead}
 use Rattle.vd_lines.proofs.Places.{at_first}
-use Rattle.vd_output.specs.Served.{served_reading}
+use Rattle.vd_model.specs.Reading.{reading}
 use Rattle.vd_top.specs.Pictures.{shown}
 use Rattle.vd_top.specs.declared.progress.Progress.{Progress}
 use Rattle.vd_top.specs.Executes.{is_execute_line}
@@ -67,13 +67,13 @@ returns-in-Ok-Last-clause-played g c = λ text told.
       | in-Err w ↦
           subst (λ (r : Progress). Played text r.stop r.lines c.args.responder.now.player.engine c.answer.new.self.player (g.S.Source.left c.advance.new.source) (g.K.Sink.held c.args.sink.now) (g.K.Sink.held c.answer.new.sink) (g.I.Image.size c.args.disk.now) (shown g.I.Image.content g.I.Image.flushes c.args.disk.now) (shown g.I.Image.content g.I.Image.flushes c.answer.new.disk)) (sym w.result-is)
           (halt_line text c.loop-responder.lines c.args.responder.now.player.engine c.loop-responder.responder.player c.loop-responder.reader (g.S.Source.left c.loop-responder.source) (g.K.Sink.held c.args.sink.now) (g.K.Sink.held c.loop-responder.sink) (g.I.Image.size c.args.disk.now) (shown g.I.Image.content g.I.Image.flushes c.args.disk.now) (shown g.I.Image.content g.I.Image.flushes c.loop-responder.disk) p c.advance.new.self.line [] w.in-Err.progress.stop w.in-Err.progress.lines c.answer.new.self.player (g.S.Source.left c.advance.new.source) (g.K.Sink.held c.answer.new.sink) (shown g.I.Image.content g.I.Image.flushes c.answer.new.disk) next.0.lines_are next.1
-          (subst (λ l. StoppedBy w.in-Err.progress.stop w.in-Err.progress.lines (served_reading l) c.loop-responder.lines c.loop-responder.responder.player c.answer.new.self.player (g.K.Sink.held c.loop-responder.sink) (g.K.Sink.held c.answer.new.sink) (g.I.Image.size c.args.disk.now) (shown g.I.Image.content g.I.Image.flushes c.loop-responder.disk) (shown g.I.Image.content g.I.Image.flushes c.answer.new.disk)) c.line.ensures
-          (subst (λ n. StoppedBy w.in-Err.progress.stop w.in-Err.progress.lines (served_reading c.line.result.now) c.loop-responder.lines c.loop-responder.responder.player c.answer.new.self.player (g.K.Sink.held c.loop-responder.sink) (g.K.Sink.held c.answer.new.sink) n (shown g.I.Image.content g.I.Image.flushes c.loop-responder.disk) (shown g.I.Image.content g.I.Image.flushes c.answer.new.disk)) c.loop-responder.invariant.size w.in-Err.ensures.answered)))
+          (subst (λ l. StoppedBy w.in-Err.progress.stop w.in-Err.progress.lines (reading l) c.loop-responder.lines c.loop-responder.responder.player c.answer.new.self.player (g.K.Sink.held c.loop-responder.sink) (g.K.Sink.held c.answer.new.sink) (g.I.Image.size c.args.disk.now) (shown g.I.Image.content g.I.Image.flushes c.loop-responder.disk) (shown g.I.Image.content g.I.Image.flushes c.answer.new.disk)) c.line.ensures
+          (subst (λ n. StoppedBy w.in-Err.progress.stop w.in-Err.progress.lines (reading c.line.result.now) c.loop-responder.lines c.loop-responder.responder.player c.answer.new.self.player (g.K.Sink.held c.loop-responder.sink) (g.K.Sink.held c.answer.new.sink) n (shown g.I.Image.content g.I.Image.flushes c.loop-responder.disk) (shown g.I.Image.content g.I.Image.flushes c.answer.new.disk)) c.loop-responder.invariant.size w.in-Err.ensures.answered)))
       | in-Ok w ↦
           subst (λ (r : Progress). Played text r.stop r.lines c.args.responder.now.player.engine c.answer.new.self.player (g.S.Source.left c.advance.new.source) (g.K.Sink.held c.args.sink.now) (g.K.Sink.held c.answer.new.sink) (g.I.Image.size c.args.disk.now) (shown g.I.Image.content g.I.Image.flushes c.args.disk.now) (shown g.I.Image.content g.I.Image.flushes c.answer.new.disk)) (sym w.result-is)
           (halt_last text c.loop-responder.lines c.args.responder.now.player.engine c.loop-responder.responder.player c.loop-responder.reader (g.S.Source.left c.loop-responder.source) (g.K.Sink.held c.args.sink.now) (g.K.Sink.held c.loop-responder.sink) (g.I.Image.size c.args.disk.now) (shown g.I.Image.content g.I.Image.flushes c.args.disk.now) (shown g.I.Image.content g.I.Image.flushes c.loop-responder.disk) p c.advance.new.self.line c.answer.new.self.player (g.S.Source.left c.advance.new.source) (g.K.Sink.held c.answer.new.sink) (shown g.I.Image.content g.I.Image.flushes c.answer.new.disk) next.0 next.1
-          (subst (λ l. Answered (served_reading l) c.loop-responder.lines c.loop-responder.responder.player c.answer.new.self.player (g.K.Sink.held c.loop-responder.sink) (g.K.Sink.held c.answer.new.sink) (g.I.Image.size c.args.disk.now) (shown g.I.Image.content g.I.Image.flushes c.loop-responder.disk) (shown g.I.Image.content g.I.Image.flushes c.answer.new.disk)) c.line.ensures
-          (subst (λ n. Answered (served_reading c.line.result.now) c.loop-responder.lines c.loop-responder.responder.player c.answer.new.self.player (g.K.Sink.held c.loop-responder.sink) (g.K.Sink.held c.answer.new.sink) n (shown g.I.Image.content g.I.Image.flushes c.loop-responder.disk) (shown g.I.Image.content g.I.Image.flushes c.answer.new.disk)) c.loop-responder.invariant.size w.in-Ok.ensures.answered)))
+          (subst (λ l. Answered (reading l) c.loop-responder.lines c.loop-responder.responder.player c.answer.new.self.player (g.K.Sink.held c.loop-responder.sink) (g.K.Sink.held c.answer.new.sink) (g.I.Image.size c.args.disk.now) (shown g.I.Image.content g.I.Image.flushes c.loop-responder.disk) (shown g.I.Image.content g.I.Image.flushes c.answer.new.disk)) c.line.ensures
+          (subst (λ n. Answered (reading c.line.result.now) c.loop-responder.lines c.loop-responder.responder.player c.answer.new.self.player (g.K.Sink.held c.loop-responder.sink) (g.K.Sink.held c.answer.new.sink) n (shown g.I.Image.content g.I.Image.flushes c.loop-responder.disk) (shown g.I.Image.content g.I.Image.flushes c.answer.new.disk)) c.loop-responder.invariant.size w.in-Ok.ensures.answered)))
     ]
 
 pub returns-in-Ok-Last-clause-untouched : goal.returns-in-Ok-Last-clause-untouched
@@ -89,8 +89,8 @@ returns-in-Err-answer-clause-played g c = λ text told.
     let p = c.loop-responder.invariant.playing text told in
     let next = subst (λ n. IsNext text p.so.done c.advance.new.self (g.S.Source.left c.advance.new.source) (Ok n)) c.in-Ok-Line.field-0-is (c.in-Ok-Line.ensures.next text p.so.done p.at) in
     halt_line text c.loop-responder.lines c.args.responder.now.player.engine c.loop-responder.responder.player c.loop-responder.reader (g.S.Source.left c.loop-responder.source) (g.K.Sink.held c.args.sink.now) (g.K.Sink.held c.loop-responder.sink) (g.I.Image.size c.args.disk.now) (shown g.I.Image.content g.I.Image.flushes c.args.disk.now) (shown g.I.Image.content g.I.Image.flushes c.loop-responder.disk) p c.advance.new.self.line next.1.after c.in-Err-answer.progress.stop c.in-Err-answer.progress.lines c.answer-in-loop-responder.new.self.player (g.S.Source.left c.advance.new.source) (g.K.Sink.held c.answer-in-loop-responder.new.sink) (shown g.I.Image.content g.I.Image.flushes c.answer-in-loop-responder.new.disk) next.1.lines_are next.2
-    (subst (λ l. StoppedBy c.in-Err-answer.progress.stop c.in-Err-answer.progress.lines (served_reading l) c.loop-responder.lines c.loop-responder.responder.player c.answer-in-loop-responder.new.self.player (g.K.Sink.held c.loop-responder.sink) (g.K.Sink.held c.answer-in-loop-responder.new.sink) (g.I.Image.size c.args.disk.now) (shown g.I.Image.content g.I.Image.flushes c.loop-responder.disk) (shown g.I.Image.content g.I.Image.flushes c.answer-in-loop-responder.new.disk)) c.line-in-loop-responder.ensures
-    (subst (λ n. StoppedBy c.in-Err-answer.progress.stop c.in-Err-answer.progress.lines (served_reading c.line-in-loop-responder.result.now) c.loop-responder.lines c.loop-responder.responder.player c.answer-in-loop-responder.new.self.player (g.K.Sink.held c.loop-responder.sink) (g.K.Sink.held c.answer-in-loop-responder.new.sink) n (shown g.I.Image.content g.I.Image.flushes c.loop-responder.disk) (shown g.I.Image.content g.I.Image.flushes c.answer-in-loop-responder.new.disk)) c.loop-responder.invariant.size c.in-Err-answer.ensures.answered))
+    (subst (λ l. StoppedBy c.in-Err-answer.progress.stop c.in-Err-answer.progress.lines (reading l) c.loop-responder.lines c.loop-responder.responder.player c.answer-in-loop-responder.new.self.player (g.K.Sink.held c.loop-responder.sink) (g.K.Sink.held c.answer-in-loop-responder.new.sink) (g.I.Image.size c.args.disk.now) (shown g.I.Image.content g.I.Image.flushes c.loop-responder.disk) (shown g.I.Image.content g.I.Image.flushes c.answer-in-loop-responder.new.disk)) c.line-in-loop-responder.ensures
+    (subst (λ n. StoppedBy c.in-Err-answer.progress.stop c.in-Err-answer.progress.lines (reading c.line-in-loop-responder.result.now) c.loop-responder.lines c.loop-responder.responder.player c.answer-in-loop-responder.new.self.player (g.K.Sink.held c.loop-responder.sink) (g.K.Sink.held c.answer-in-loop-responder.new.sink) n (shown g.I.Image.content g.I.Image.flushes c.loop-responder.disk) (shown g.I.Image.content g.I.Image.flushes c.answer-in-loop-responder.new.disk)) c.loop-responder.invariant.size c.in-Err-answer.ensures.answered))
 
 pub returns-in-Err-answer-clause-untouched : goal.returns-in-Err-answer-clause-untouched
 returns-in-Err-answer-clause-untouched g c = λ text told none.
@@ -104,8 +104,8 @@ returns-in-Err-flush-clause-played g c = λ text told.
     let p = c.loop-responder.invariant.playing text told in
     let next = subst (λ n. IsNext text p.so.done c.advance.new.self (g.S.Source.left c.advance.new.source) (Ok n)) c.in-Ok-Line.field-0-is (c.in-Ok-Line.ensures.next text p.so.done p.at) in
     let more = go_on text c.loop-responder.lines c.args.responder.now.player.engine c.loop-responder.responder.player c.loop-responder.reader (g.S.Source.left c.loop-responder.source) (g.K.Sink.held c.args.sink.now) (g.K.Sink.held c.loop-responder.sink) (g.I.Image.size c.args.disk.now) (shown g.I.Image.content g.I.Image.flushes c.args.disk.now) (shown g.I.Image.content g.I.Image.flushes c.loop-responder.disk) p c.advance.new.self.line c.answer-in-loop-responder.new.self.player c.advance.new.self (g.S.Source.left c.advance.new.source) (g.K.Sink.held c.answer-in-loop-responder.new.sink) (shown g.I.Image.content g.I.Image.flushes c.answer-in-loop-responder.new.disk) next
-    (subst (λ l. Answered (served_reading l) c.loop-responder.lines c.loop-responder.responder.player c.answer-in-loop-responder.new.self.player (g.K.Sink.held c.loop-responder.sink) (g.K.Sink.held c.answer-in-loop-responder.new.sink) (g.I.Image.size c.args.disk.now) (shown g.I.Image.content g.I.Image.flushes c.loop-responder.disk) (shown g.I.Image.content g.I.Image.flushes c.answer-in-loop-responder.new.disk)) c.line-in-loop-responder.ensures
-    (subst (λ n. Answered (served_reading c.line-in-loop-responder.result.now) c.loop-responder.lines c.loop-responder.responder.player c.answer-in-loop-responder.new.self.player (g.K.Sink.held c.loop-responder.sink) (g.K.Sink.held c.answer-in-loop-responder.new.sink) n (shown g.I.Image.content g.I.Image.flushes c.loop-responder.disk) (shown g.I.Image.content g.I.Image.flushes c.answer-in-loop-responder.new.disk)) c.loop-responder.invariant.size c.in-Ok-answer.ensures.answered)) in
+    (subst (λ l. Answered (reading l) c.loop-responder.lines c.loop-responder.responder.player c.answer-in-loop-responder.new.self.player (g.K.Sink.held c.loop-responder.sink) (g.K.Sink.held c.answer-in-loop-responder.new.sink) (g.I.Image.size c.args.disk.now) (shown g.I.Image.content g.I.Image.flushes c.loop-responder.disk) (shown g.I.Image.content g.I.Image.flushes c.answer-in-loop-responder.new.disk)) c.line-in-loop-responder.ensures
+    (subst (λ n. Answered (reading c.line-in-loop-responder.result.now) c.loop-responder.lines c.loop-responder.responder.player c.answer-in-loop-responder.new.self.player (g.K.Sink.held c.loop-responder.sink) (g.K.Sink.held c.answer-in-loop-responder.new.sink) n (shown g.I.Image.content g.I.Image.flushes c.loop-responder.disk) (shown g.I.Image.content g.I.Image.flushes c.answer-in-loop-responder.new.disk)) c.loop-responder.invariant.size c.in-Ok-answer.ensures.answered)) in
     halt_sink text (c.loop-responder.lines + 1) c.args.responder.now.player.engine c.answer-in-loop-responder.new.self.player c.advance.new.self (g.S.Source.left c.advance.new.source) (g.K.Sink.held c.args.sink.now) (g.K.Sink.held c.answer-in-loop-responder.new.sink) (g.I.Image.size c.args.disk.now) (shown g.I.Image.content g.I.Image.flushes c.args.disk.now) (shown g.I.Image.content g.I.Image.flushes c.answer-in-loop-responder.new.disk) more (g.K.Sink.held c.flush.new.sink) c.in-Err-flush.written c.in-Err-flush.ensures.front
 
 pub returns-in-Err-flush-clause-untouched : goal.returns-in-Err-flush-clause-untouched
@@ -129,8 +129,8 @@ loop-responder-preserved g c =
           let p = c.loop-responder.invariant.playing text told in
           let next = subst (λ n. IsNext text p.so.done c.advance.new.self (g.S.Source.left c.advance.new.source) (Ok n)) c.in-Ok-Line.field-0-is (c.in-Ok-Line.ensures.next text p.so.done p.at) in
           let more = go_on text c.loop-responder.lines c.args.responder.now.player.engine c.loop-responder.responder.player c.loop-responder.reader (g.S.Source.left c.loop-responder.source) (g.K.Sink.held c.args.sink.now) (g.K.Sink.held c.loop-responder.sink) (g.I.Image.size c.args.disk.now) (shown g.I.Image.content g.I.Image.flushes c.args.disk.now) (shown g.I.Image.content g.I.Image.flushes c.loop-responder.disk) p c.advance.new.self.line c.answer-in-loop-responder.new.self.player c.advance.new.self (g.S.Source.left c.advance.new.source) (g.K.Sink.held c.answer-in-loop-responder.new.sink) (shown g.I.Image.content g.I.Image.flushes c.answer-in-loop-responder.new.disk) next
-          (subst (λ l. Answered (served_reading l) c.loop-responder.lines c.loop-responder.responder.player c.answer-in-loop-responder.new.self.player (g.K.Sink.held c.loop-responder.sink) (g.K.Sink.held c.answer-in-loop-responder.new.sink) (g.I.Image.size c.args.disk.now) (shown g.I.Image.content g.I.Image.flushes c.loop-responder.disk) (shown g.I.Image.content g.I.Image.flushes c.answer-in-loop-responder.new.disk)) c.line-in-loop-responder.ensures
-          (subst (λ n. Answered (served_reading c.line-in-loop-responder.result.now) c.loop-responder.lines c.loop-responder.responder.player c.answer-in-loop-responder.new.self.player (g.K.Sink.held c.loop-responder.sink) (g.K.Sink.held c.answer-in-loop-responder.new.sink) n (shown g.I.Image.content g.I.Image.flushes c.loop-responder.disk) (shown g.I.Image.content g.I.Image.flushes c.answer-in-loop-responder.new.disk)) c.loop-responder.invariant.size c.in-Ok-answer.ensures.answered)) in
+          (subst (λ l. Answered (reading l) c.loop-responder.lines c.loop-responder.responder.player c.answer-in-loop-responder.new.self.player (g.K.Sink.held c.loop-responder.sink) (g.K.Sink.held c.answer-in-loop-responder.new.sink) (g.I.Image.size c.args.disk.now) (shown g.I.Image.content g.I.Image.flushes c.loop-responder.disk) (shown g.I.Image.content g.I.Image.flushes c.answer-in-loop-responder.new.disk)) c.line-in-loop-responder.ensures
+          (subst (λ n. Answered (reading c.line-in-loop-responder.result.now) c.loop-responder.lines c.loop-responder.responder.player c.answer-in-loop-responder.new.self.player (g.K.Sink.held c.loop-responder.sink) (g.K.Sink.held c.answer-in-loop-responder.new.sink) n (shown g.I.Image.content g.I.Image.flushes c.loop-responder.disk) (shown g.I.Image.content g.I.Image.flushes c.answer-in-loop-responder.new.disk)) c.loop-responder.invariant.size c.in-Ok-answer.ensures.answered)) in
           go_flushed text (c.loop-responder.lines + 1) c.args.responder.now.player.engine c.answer-in-loop-responder.new.self.player c.advance.new.self (g.S.Source.left c.advance.new.source) (g.K.Sink.held c.args.sink.now) (g.K.Sink.held c.answer-in-loop-responder.new.sink) (g.I.Image.size c.args.disk.now) (shown g.I.Image.content g.I.Image.flushes c.args.disk.now) (shown g.I.Image.content g.I.Image.flushes c.answer-in-loop-responder.new.disk) more (g.K.Sink.held c.flush.new.sink) c.flush.new.waiting c.in-Ok-flush.ensures.ok;
       untouched = λ text told none.
           let p = c.loop-responder.invariant.playing text told in

@@ -1,4 +1,4 @@
-use Rattle.std.proofs.Common.{◌≡◌, ◌+◌, ◌∙◌, true, false, true≢false, ap, sym, subst, arith, [], Some, None, Ok}
+use Rattle.std.proofs.Common.{◌≡◌, ◌+◌, ◌*◌, ◌∙◌, true, false, true≢false, ap, sym, subst, arith, [], Some, None, Ok}
 use Rattle.std.specs.Option.{option_map}
 use Rattle.std.specs.declared.alloc.AllocError.{AllocError}
 use Rattle.vd_bounce.specs.Frames.{Keeps}
@@ -61,7 +61,7 @@ returns-in-Execute-clause-rest g c = record {
 }
 
 pub returns-in-Execute-clause-within : goal.returns-in-Execute-clause-within
-returns-in-Execute-clause-within g c = λ most w. subst (λ (d : Device). device.IsWithin (most + 1) d) (sym c.execute.ensures.device) (within_later most (most + 1) _ (omega arith) w)
+returns-in-Execute-clause-within g c = λ most w. subst (λ (d : Device). device.IsWithin (4 * (most + 1)) d) (sym c.execute.ensures.device) (within_later (4 * most) (4 * (most + 1)) _ (omega arith) w)
 
 pub returns-in-Ok-clause-flushed : goal.returns-in-Ok-clause-flushed
 returns-in-Ok-clause-flushed g c = λ x made name seen s named window e.
