@@ -4,6 +4,7 @@ mod areas;
 mod control;
 mod edges;
 mod ends;
+mod faults;
 mod memory;
 mod messages;
 mod requests;
@@ -64,14 +65,14 @@ fn words_of(alloc: Global, words: &[&str]) -> Result<Vec<String>, AllocError> {
     Ok(all)
 }
 
-/// Runs a script, and gives the lines at which the image failed.
-pub fn check(
+/// Runs a script, and gives the lines at which the image failed, and the image.
+pub fn check_image(
     rt: &impl Abort,
     alloc: Global,
     case: &Case<'_>,
     outside: Outside<'_>,
     name: &str,
-) -> Result<Lines, AllocError> {
+) -> Result<(Lines, MemImage), AllocError> {
     let words = words_of(alloc, case.words)?;
     let text = Bytes::from_vec(case.script.as_bytes().to_vec(alloc)?);
     let mut source = MemSource::new(text, Lines::from_vec(outside.pulls.to_vec(alloc)?));
@@ -89,7 +90,19 @@ pub fn check(
     assert_eq!(rt; exit.status, case.status, "status of {name}");
     assert_eq!(rt; exit.line, case.line, "line of {name}");
     assert_eq!(rt; exit.lines_done, case.lines_done, "lines done of {name}");
-    Ok(exit.disk_failures)
+    Ok((exit.disk_failures, disk))
+}
+
+/// Runs a script, and gives the lines at which the image failed.
+pub fn check(
+    rt: &impl Abort,
+    alloc: Global,
+    case: &Case<'_>,
+    outside: Outside<'_>,
+    name: &str,
+) -> Result<Lines, AllocError> {
+    let (failures, _image) = check_image(rt, alloc, case, outside, name)?;
+    Ok(failures)
 }
 
 /// The script of some lines, and the replies that are due.

@@ -5,9 +5,14 @@
 //! what is written, and ends with the status that it answers: 0 where every line was answered, 2 for
 //! other words, 3 and 4 where input or output failed, 5 without memory, 6 at a line that is not in
 //! the grammar, 7 past a limit. The image is in memory or in a file, as the words say; where that
-//! file can't be opened, the status is 8, and nothing is read.
+//! file can't be opened, the status is 8, and nothing is read. Another status than 0 is explained by
+//! one line on standard error. Words that ask for help are answered on standard output.
 #![tactic(auto)]
 
+mod fault;
+mod help;
+
+use fault::{Fault, told};
 use std::fs::{File, OpenOptions};
 use std::io::ErrorKind;
 use std::process::ExitCode;
@@ -16,12 +21,6 @@ use std::{env, io, str};
 use vd_io::{FileImage, Image, MemImage, StdSink, StdSource};
 use vd_num::Lines;
 use vd_top::{WordsError, read_words, script_top};
-
-/// The status of a run for which there is no memory.
-const NO_MEMORY: u8 = 5;
-
-/// The status of a run whose image can't be opened.
-const NO_IMAGE: u8 = 8;
 
 /// The words after the program's name.
 fn words<R: Env + AllocGlobal>(rt: &R) -> io::Result<Vec<String>> {
@@ -33,52 +32,62 @@ fn words<R: Env + AllocGlobal>(rt: &R) -> io::Result<Vec<String>> {
 }
 
 /// The image in the file of this path.
-fn open_image(rt: &HostRuntime, path: &[u8]) -> Option<FileImage<File>> {
-    let path = str::from_utf8(path).ok()?;
-    let file = OpenOptions::new()
-        .read(true)
-        .write(true)
-        .open(rt, path)
-        .ok()?;
-    FileImage::new(file).ok()
+fn open_image(rt: &HostRuntime, path: &[u8]) -> Result<FileImage<File>, Fault> {
+    let Ok(path) = str::from_utf8(path) else {
+        return Err(Fault::Path);
+    };
+    match OpenOptions::new().read(true).write(true).open(rt, path) {
+        Ok(file) => FileImage::new(file).map_err(|_| Fault::Size),
+        Err(error) => Err(Fault::Image(error)),
+    }
 }
 
 /// Runs the script of standard input over this image.
-fn run<I: Image + Drop>(rt: &HostRuntime, words: &Vec<String>, mut disk: I) -> u8 {
+fn run<I: Image + Drop>(rt: &HostRuntime, words: &Vec<String>, mut disk: I) -> Option<Fault> {
     let mut source = StdSource::new(rt.stdin());
     let mut sink = StdSink::new(rt.stdout());
-    script_top(rt.alloc(), words, &mut source, &mut sink, &mut disk).status
+    let exit = script_top(rt.alloc(), words, &mut source, &mut sink, &mut disk);
+    Fault::of_exit(&exit)
 }
 
 /// Runs it over an image in memory, of zeros.
-fn run_in_memory(rt: &HostRuntime, words: &Vec<String>, sectors: u64) -> u8 {
+fn run_in_memory(rt: &HostRuntime, words: &Vec<String>, sectors: u64) -> Option<Fault> {
     match MemImage::new(rt.alloc(), sectors, Lines::new(rt.alloc())) {
         Ok(disk) => run(rt, words, disk),
-        Err(_) => NO_MEMORY,
+        Err(_) => Some(Fault::Memory(0)),
     }
 }
 
 /// Runs it over the image in the file of this path.
-fn run_in_file(rt: &HostRuntime, words: &Vec<String>, path: &[u8]) -> u8 {
+fn run_in_file(rt: &HostRuntime, words: &Vec<String>, path: &[u8]) -> Option<Fault> {
     match open_image(rt, path) {
-        Some(disk) => run(rt, words, disk),
-        None => NO_IMAGE,
+        Ok(disk) => run(rt, words, disk),
+        Err(fault) => Some(fault),
+    }
+}
+
+/// Runs what the words ask for; none where it was answered whole.
+fn run_words(rt: &HostRuntime, words: &Vec<String>) -> Option<Fault> {
+    match read_words(rt.alloc(), words) {
+        Err(WordsError::Usage) => run_in_memory(rt, words, 0),
+        Err(WordsError::Memory) => Some(Fault::Memory(0)),
+        Ok(options) => match &options.image {
+            None => run_in_memory(rt, words, options.sectors),
+            Some(path) => run_in_file(rt, words, path.as_slice()),
+        },
     }
 }
 
 fn main(rt: HostRuntime) -> ExitCode {
     let words = match words(&rt) {
         Ok(words) => words,
-        Err(error) if error.kind() == ErrorKind::InvalidData => return ExitCode::from(2),
-        Err(_) => return ExitCode::from(NO_MEMORY),
+        Err(error) if error.kind() == ErrorKind::InvalidData => {
+            return told(&rt, Some(&Fault::Usage));
+        }
+        Err(_) => return told(&rt, Some(&Fault::Memory(0))),
     };
-    let status = match read_words(rt.alloc(), &words) {
-        Err(WordsError::Usage) => run_in_memory(&rt, &words, 0),
-        Err(WordsError::Memory) => NO_MEMORY,
-        Ok(options) => match &options.image {
-            None => run_in_memory(&rt, &words, options.sectors),
-            Some(path) => run_in_file(&rt, &words, path.as_slice()),
-        },
-    };
-    ExitCode::from(status)
+    match help::asked(&words) {
+        Some(help) => help::print(&rt, help),
+        None => told(&rt, run_words(&rt, &words).as_ref()),
+    }
 }

@@ -1,6 +1,6 @@
 //! How a run ends: its words, faults of the outside, and a reply that is written in part.
 
-use super::{Case, Outside, Row, SOUND, check, check_row, requests, text_of};
+use super::{Case, Outside, Row, SOUND, check, check_row};
 use std::test::Fail;
 
 #[test]
@@ -161,37 +161,5 @@ fn the_image_fails(rt: HostRuntime) -> Result<(), Fail> {
     };
     let failures = check_row(&rt, rt.alloc(), &WRITE, failing)?;
     assert_eq!(rt; failures.as_slice(), [16].as_slice(), "the execute's line");
-    Ok(())
-}
-
-/// The same in a whole session: nothing was written, so a later read gives zeros.
-#[test]
-fn the_image_fails_in_a_session(rt: HostRuntime) -> Result<(), Fail> {
-    let alloc = rt.alloc();
-    let mut lines = requests::rows()[0].lines.to_vec(alloc)?;
-    assert_eq!(rt; lines.len(), 64);
-    lines[34].1 = "ok status 1";
-    lines[38].1 = "ok head 0 len 1 status 1";
-    lines[46].1 = "ok 000000";
-    let (script, replies) = text_of(alloc, lines.as_slice())?;
-    let case = Case {
-        words: &["run", "--sectors", "64"],
-        script: script.as_str(),
-        replies: replies.as_str(),
-        status: 0,
-        line: 0,
-        lines_done: 64,
-    };
-    let failing = Outside {
-        sectors: 64,
-        image: &[0],
-        ..SOUND
-    };
-    let failures = check(&rt, alloc, &case, failing, "a session")?;
-    assert_eq!(rt;
-        failures.as_slice(),
-        [35].as_slice(),
-        "the first execute's line"
-    );
     Ok(())
 }

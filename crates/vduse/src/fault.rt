@@ -1,0 +1,79 @@
+//! Why a program ended with another status than 0, as one line for standard error.
+
+ghost use Rattle.std.specs.Prelude.{◌≡◌, ◌⊎◌, MatchOption, true};
+ghost use Rattle.vd_top.specs.Written.{is_status};
+ghost use Rattle.vduse.specs.Faults.{status_of};
+
+use std::io;
+use std::process::ExitCode;
+use thiserror::Error;
+use vd_top::Exit;
+
+/// Why a program ended before its script was answered whole. A line's number counts the lines that ask for
+/// something: comments and empty lines are left out.
+#[derive(Debug, Drop, Error)]
+pub enum Fault {
+    #[error("usage: vduse run [--page P] [--bounce-pages N] [--iova-pages N] [--sectors N | --image PATH] < SCRIPT")]
+    Usage,
+    #[error("cannot read the script after line {0}")]
+    Read(u64),
+    #[error("cannot write the replies after that of line {0}")]
+    Write(u64),
+    #[error("no memory after line {0}")]
+    Memory(u64),
+    #[error("line {0}: not in the grammar")]
+    Grammar(u64),
+    #[error("line {0}: longer than 65536 bytes, or the script is longer than 67108864")]
+    Long(u64),
+    #[error("cannot open the image: {0}")]
+    Image(io::Error),
+    #[error("cannot open the image: its path is not UTF-8")]
+    Path,
+    #[error("cannot tell the size of the image")]
+    Size,
+}
+
+impl Fault {
+    /// Why a script ended so; none where it was answered whole.
+    pub fn of_exit(exit: &Exit) -> Option<Fault>
+        ensures { (is_status exit.now.status ≡ true) ⊎ (exit.now.status ≡ 2) →
+            MatchOption result (exit.now.status ≡ 0) (λ fault. status_of fault ≡ exit.now.status) }
+    {
+        match exit.status {
+            0 => None,
+            3 => Some(Fault::Read(exit.lines_done)),
+            4 => Some(Fault::Write(exit.lines_done)),
+            5 => Some(Fault::Memory(exit.lines_done)),
+            6 => Some(Fault::Grammar(exit.line)),
+            7 => Some(Fault::Long(exit.line)),
+            _ => Some(Fault::Usage),
+        }
+    }
+
+    /// The status that a program ends with for it.
+    pub fn status(&self) -> u8
+        ensures { result ≡ status_of self.now }
+    {
+        match self {
+            Fault::Usage => 2,
+            Fault::Read(_) => 3,
+            Fault::Write(_) => 4,
+            Fault::Memory(_) => 5,
+            Fault::Grammar(_) => 6,
+            Fault::Long(_) => 7,
+            Fault::Image(_) | Fault::Path | Fault::Size => 8,
+        }
+    }
+}
+
+/// Says the fault, if there is one, on standard error, and gives the status to end with.
+pub fn told(rt: &HostRuntime, fault: Option<&Fault>) -> ExitCode {
+    match fault {
+        None => ExitCode::from(0),
+        Some(fault) => {
+            // Where standard error is closed too, the status alone tells.
+            let _said = eprintln!(rt; "vduse: {fault}");
+            ExitCode::from(fault.status())
+        }
+    }
+}

@@ -1,0 +1,71 @@
+//! What `vduse --help`, `vduse help run` and `vduse --version` write.
+
+use std::process::ExitCode;
+
+/// What a person asked for who runs nothing.
+#[derive(Clone, Copy)]
+pub enum Help {
+    Programs,
+    Run,
+    Version,
+}
+
+const PROGRAMS: &str = "\
+vduse - the kernel side of VDUSE and a block daemon, as a script asks them
+
+usage: vduse run [OPTIONS] < SCRIPT     answers each line of a script by one line
+       vduse help run                   says the options, limits and statuses of a run
+       vduse --version
+
+Try: vduse run < examples/first.script
+The lines of a script: docs/SCRIPT.md, or man 5 vduse-script";
+
+const RUN: &str = "\
+usage: vduse run [OPTIONS] < SCRIPT
+
+A script comes on standard input, and one reply for each line that asks for something goes to standard output.
+
+  --page P           bytes of a page of bounce memory: 4096 (as without it) or 65536
+  --bounce-pages N   slots of 4096 bytes of bounce memory, 2 to 16384 (16384)
+  --iova-pages N     slots of the I/O address space, above the bounce slots and up to 65536 (32768)
+  --sectors N        sectors of 512 bytes of an image in memory, 0 to 131072 (2048)
+  --image PATH       a file that is the image, in place of --sectors
+
+status 0  every line was answered
+       2  other words than these; nothing was read
+       3  reading failed                  4  writing failed
+       5  no memory                       6  a line is not in the grammar
+       7  a line has more than 65536 bytes, or the script more than 67108864
+       8  the image cannot be opened; nothing was read
+A refused line (err N, bus A) does not end a run. Why a run ended is said on standard error.";
+
+const VERSION: &str = "vduse 0.1.0 (VDUSE of Linux 6.1, virtio 1.2)";
+
+/// What these words ask for, if they ask for help and not for a run.
+pub fn asked(words: &Vec<String>) -> Option<Help> {
+    match words.len() {
+        1 => match words[0].as_str() {
+            "help" | "--help" | "-h" => Some(Help::Programs),
+            "--version" | "-V" => Some(Help::Version),
+            _ => None,
+        },
+        2 => match (words[0].as_str(), words[1].as_str()) {
+            ("help", "run") | ("run", "--help") => Some(Help::Run),
+            _ => None,
+        },
+        _ => None,
+    }
+}
+
+/// Writes it to standard output. The status is 0, or 4 where that failed.
+pub fn print(rt: &HostRuntime, help: Help) -> ExitCode {
+    let text = match help {
+        Help::Programs => PROGRAMS,
+        Help::Run => RUN,
+        Help::Version => VERSION,
+    };
+    match println!(rt; "{text}") {
+        Ok(()) => ExitCode::from(0),
+        Err(_) => ExitCode::from(4),
+    }
+}
