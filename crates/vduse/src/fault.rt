@@ -9,8 +9,7 @@ use std::process::ExitCode;
 use thiserror::Error;
 use vd_top::Exit;
 
-/// Why a program ended before its script was answered whole. A line's number counts the lines that ask for
-/// something: comments and empty lines are left out.
+/// Why a program ended before its script was answered whole. Lines count from 1, comments and empty lines included.
 #[derive(Debug, Drop, Error)]
 pub enum Fault {
     #[error("usage: vduse run [--page P] [--bounce-pages N] [--iova-pages N] [--sectors N | --image PATH] < SCRIPT")]
@@ -21,8 +20,8 @@ pub enum Fault {
     Write(u64),
     #[error("no memory after line {0}")]
     Memory(u64),
-    #[error("line {0}: not in the grammar")]
-    Grammar(u64),
+    #[error("line {0}: not in the grammar{1}")]
+    Grammar(u64, String),
     #[error("line {0}: longer than 65536 bytes, or the script is longer than 67108864")]
     Long(u64),
     #[error("cannot open the image: {0}")]
@@ -34,8 +33,8 @@ pub enum Fault {
 }
 
 impl Fault {
-    /// Why a script ended so; none where it was answered whole.
-    pub fn of_exit(exit: &Exit) -> Option<Fault>
+    /// Why a script ended so; none where it was answered whole. The quote is what follows the message on a line that isn't in the grammar.
+    pub fn of_exit(exit: &Exit, quote: String) -> Option<Fault>
         ensures { (is_status exit.now.status ≡ true) ⊎ (exit.now.status ≡ 2) →
             MatchOption result (exit.now.status ≡ 0) (λ fault. status_of fault ≡ exit.now.status) }
     {
@@ -44,7 +43,7 @@ impl Fault {
             3 => Some(Fault::Read(exit.lines_done)),
             4 => Some(Fault::Write(exit.lines_done)),
             5 => Some(Fault::Memory(exit.lines_done)),
-            6 => Some(Fault::Grammar(exit.line)),
+            6 => Some(Fault::Grammar(exit.line, quote)),
             7 => Some(Fault::Long(exit.line)),
             _ => Some(Fault::Usage),
         }
@@ -59,7 +58,7 @@ impl Fault {
             Fault::Read(_) => 3,
             Fault::Write(_) => 4,
             Fault::Memory(_) => 5,
-            Fault::Grammar(_) => 6,
+            Fault::Grammar(..) => 6,
             Fault::Long(_) => 7,
             Fault::Image(_) | Fault::Path | Fault::Size => 8,
         }

@@ -11,8 +11,10 @@
 
 mod fault;
 mod help;
+mod quote;
 
 use fault::{Fault, told};
+use quote::Quoting;
 use std::fs::{File, OpenOptions};
 use std::io::ErrorKind;
 use std::process::ExitCode;
@@ -44,10 +46,14 @@ fn open_image(rt: &HostRuntime, path: &[u8]) -> Result<FileImage<File>, Fault> {
 
 /// Runs the script of standard input over this image.
 fn run<I: Image + Drop>(rt: &HostRuntime, words: &Vec<String>, mut disk: I) -> Option<Fault> {
-    let mut source = StdSource::new(rt.stdin());
+    let mut source = Quoting::new(rt.alloc(), StdSource::new(rt.stdin()));
     let mut sink = StdSink::new(rt.stdout());
     let exit = script_top(rt.alloc(), words, &mut source, &mut sink, &mut disk);
-    Fault::of_exit(&exit)
+    let quote = match exit.status {
+        6 => source.quote(rt.alloc()),
+        _ => String::new(rt.alloc()),
+    };
+    Fault::of_exit(&exit, quote)
 }
 
 /// Runs it over an image in memory, of zeros.
