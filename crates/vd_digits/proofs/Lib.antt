@@ -1,0 +1,4 @@
+pub mod Tables
+pub mod NumberDigits
+pub mod ReadDigits
+pub mod FewDigits
