@@ -6,7 +6,7 @@ use Rattle.vd_model.specs.declared.answer.Item.{Item}
 use Rattle.vd_model.specs.Text.{behind}
 use Rattle.vd_model.specs.Replies.{item_text}
 use Rattle.vd_answers.specs.Short.{is_text, are_short}
-use Rattle.vd_replies.specs.Adds.{Adds, HasRoom}
+use Rattle.vd_digits.specs.Adds.{Adds, HasRoom}
 use Rattle.vd_replies.proofs.Spacing.{words_step}
 
 -- the first i fields are written, and the others have room

@@ -1,5 +1,3 @@
 -- Lemmas of this crate.
-pub mod HexDigits
-pub mod Pieces
 pub mod Spacing
 pub mod Fields

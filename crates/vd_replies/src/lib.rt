@@ -1,10 +1,9 @@
 //! Reply lines, printed where an answer is told.
 //!
-//! It stands on `vd_answers` and `vd_model`. `Printed` hears an answer and appends exactly its reply line; where
+//! It stands on `vd_answers`, `vd_digits` and `vd_model`. `Printed` hears an answer and appends exactly its reply line; where
 //! there is room, a short answer takes no memory.
 #![tactic(auto)]
 
-mod digits;
 mod printed;
 mod put;
 mod words;

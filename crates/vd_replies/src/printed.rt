@@ -4,7 +4,7 @@ ghost use Rattle.std.specs.Prelude.{◌≡◌, ◌≤◌, ◌+◌, ◌*◌, ◌�
 ghost use Rattle.vd_model.specs.Text.{behind};
 ghost use Rattle.vd_model.specs.Replies.{item_text, reply_line, words_after};
 ghost use Rattle.vd_answers.specs.Short.{are_short, is_done};
-ghost use Rattle.vd_replies.specs.Adds.{Adds, HasRoom};
+ghost use Rattle.vd_digits.specs.Adds.{Adds, HasRoom};
 
 use crate::put::{put, put_address, put_field, put_hex, put_number, put_word};
 use crate::words::{first_word_of, kind_text_of};

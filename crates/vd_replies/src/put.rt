@@ -5,11 +5,11 @@ ghost use Rattle.hex.specs.Hex.{encode_lower};
 ghost use Rattle.vd_model.specs.Text.{behind};
 ghost use Rattle.vd_model.specs.Replies.{address_text, item_text};
 ghost use Rattle.vd_answers.specs.Short.{is_text, are_short};
-ghost use Rattle.vd_replies.specs.Adds.{Adds, HasRoom};
+ghost use Rattle.vd_digits.specs.Adds.{Adds, HasRoom};
 
-use crate::digits::{ADDRESS_LEN, put_bytes, write_hex};
 use crate::words::tag_text_of;
 use itoa::Buffer;
+use vd_digits::{ADDRESS_LEN, append_hex, write_hex};
 use vd_model::Item;
 
 /// Appends bytes.
@@ -57,7 +57,7 @@ pub fn put_hex(into: &mut Vec<u8>, bytes: &[u8])
     ensures { Adds into.old into.new (32 ∷ encode_lower bytes.now) (1 + 2 * length bytes.now) }
 {
     into.push_reserved(b' ');
-    put_bytes(into, bytes);
+    append_hex(into, bytes).unwrap();
 }
 
 /// A space and a field that is no text.
