@@ -1,0 +1,3 @@
+pub mod QueueLists
+pub mod QueueLines
+pub mod Worked
