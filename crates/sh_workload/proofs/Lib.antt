@@ -1,0 +1,2 @@
+mod EachFrom
+mod Counted
