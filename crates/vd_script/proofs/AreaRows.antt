@@ -17,12 +17,12 @@ use Rattle.vd_script.proofs.RowKept.{RowKept, row, bounded}
 
 pub area_row : (k : AreaWord) → RowKept (first.Area k) (area_word_text k) (area_form k) area_text
 unfolding control_word_text node_word_text area_word_text bus_word_text driver_word_text queue_word_text
-area_row words.Lookup = row refl refl refl (two_fields_kept u64_kept u64_kept Lookup (λ a b. refl))
-area_row words.IovaInfo = row refl refl refl (two_fields_kept u64_kept u64_kept IovaInfo (λ a b. refl))
-area_row words.Area = row refl refl refl (one_field_kept u64_kept Area (λ a. refl))
-area_row words.AreaPut = row refl refl refl (two_fields_kept u64_kept hex_kept AreaPut (λ a b. refl))
-area_row words.AreaGet = row refl refl refl (two_fields_kept u64_kept (bounded 1 32768 refl) AreaGet (λ a b. refl))
-area_row words.RegUmem = row refl refl refl (three_fields_kept u64_kept u64_kept u64_kept RegUmem (λ a b c. refl))
-area_row words.DeregUmem = row refl refl refl (two_fields_kept u64_kept u64_kept DeregUmem (λ a b. refl))
-area_row words.Load = row refl refl refl (two_fields_kept u64_kept (bounded 1 32768 refl) Load (λ a b. refl))
-area_row words.Store = row refl refl refl (two_fields_kept u64_kept hex_kept Store (λ a b. refl))
+area_row words.Lookup = row refl refl (two_fields_kept u64_kept u64_kept Lookup (λ a b. refl))
+area_row words.IovaInfo = row refl refl (two_fields_kept u64_kept u64_kept IovaInfo (λ a b. refl))
+area_row words.Area = row refl refl (one_field_kept u64_kept Area (λ a. refl))
+area_row words.AreaPut = row refl refl (two_fields_kept u64_kept hex_kept AreaPut (λ a b. refl))
+area_row words.AreaGet = row refl refl (two_fields_kept u64_kept (bounded 1 32768 refl) AreaGet (λ a b. refl))
+area_row words.RegUmem = row refl refl (three_fields_kept u64_kept u64_kept u64_kept RegUmem (λ a b c. refl))
+area_row words.DeregUmem = row refl refl (two_fields_kept u64_kept u64_kept DeregUmem (λ a b. refl))
+area_row words.Load = row refl refl (two_fields_kept u64_kept (bounded 1 32768 refl) Load (λ a b. refl))
+area_row words.Store = row refl refl (two_fields_kept u64_kept hex_kept Store (λ a b. refl))

@@ -1,8 +1,3 @@
-pub mod Cutting
-pub mod Numbers
-pub mod FewDigits
-pub mod Tables
-pub mod HexDigits
 pub mod Parts
 pub mod Lines
 pub mod Kept
@@ -16,4 +11,3 @@ pub mod BusRows
 pub mod DriverRows
 pub mod QueueRows
 pub mod StepsKept
-pub mod FirstWords

@@ -4,9 +4,9 @@ use Rattle.std.specs.Prelude.{option_map}
 use Rattle.std.proofs.lemmas.List.{append-nil, length-append}
 use Rattle.std.proofs.lemmas.Grind.{common_steps}
 use Rattle.vd_model.specs.declared.parts.Part.{Part}
-use Rattle.vd_script.specs.declared.error.LineError.{LineError}
-use Rattle.vd_script.specs.declared.error.LineError.TheVariants.{Bad, Memory}
-use Rattle.vd_script.specs.Gives.{Fails, Gives, Ends}
+use Rattle.vd_words.specs.declared.error.LineError.{LineError}
+use Rattle.vd_words.specs.declared.error.LineError.TheVariants.{Bad, Memory}
+use Rattle.vd_words.specs.Gives.{Fails, Gives, Ends}
 use Rattle.vd_model.specs.Forms.{each_word, part_field, parts_form}
 
 -- what was read before, and what is still read

@@ -2,16 +2,15 @@
 
 ghost use Rattle.std.specs.Prelude.{◌≡◌, ◌++◌, OnOk};
 ghost use Rattle.std.specs.List.{join_with_byte};
-ghost use Rattle.vd_script.specs.Gives.{Gives};
+ghost use Rattle.vd_words.specs.Gives.{Gives};
 ghost use Rattle.vd_model.specs.AreaLines.{area_form, area_text};
 ghost use Rattle.vd_model.specs.Spelling.{with_name};
 
-use crate::error::LineError;
 use crate::form::read_form;
 use crate::put::{begin, put_hex};
-use crate::words::Words;
 use std::alloc::AllocError;
 use vd_model::{AreaStep, AreaWord, Bytes, Text};
+use vd_words::{LineError, Words};
 
 /// The step that the words behind the first word and the name say.
 pub fn area_step<'a>(

@@ -2,16 +2,15 @@
 
 ghost use Rattle.std.specs.Prelude.{◌≡◌, ◌++◌, OnOk};
 ghost use Rattle.std.specs.List.{join_with_byte};
-ghost use Rattle.vd_script.specs.Gives.{Gives};
+ghost use Rattle.vd_words.specs.Gives.{Gives};
 ghost use Rattle.vd_model.specs.BusLines.{bus_form, bus_text};
 ghost use Rattle.vd_model.specs.Spelling.{with_name};
 
-use crate::error::LineError;
 use crate::form::read_form;
 use crate::put::{begin, put_flag, put_on};
-use crate::words::Words;
 use std::alloc::AllocError;
 use vd_model::{BusStep, BusWord, Bytes, Text};
+use vd_words::{LineError, Words};
 
 /// The step that the words behind the first word and the name say.
 pub fn bus_step(word: BusWord, words: &mut Words<'_>) -> Result<BusStep, LineError>

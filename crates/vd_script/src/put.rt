@@ -5,9 +5,10 @@ ghost use Rattle.std.specs.List.{join_with_byte};
 ghost use Rattle.hex.specs.Hex.{encode_lower};
 ghost use Rattle.vd_model.specs.Text.{flag_text, dir_text, on_text, optional_hex_text, part_text, submit_text, behind};
 
-use crate::digits::put_bytes;
 use itoa::Buffer;
 use std::alloc::AllocError;
+use std::mem;
+use vd_digits::append_hex;
 use vd_model::{Bytes, Dir, Part, Parts, QueueOrConfig, SubmitForm, Text};
 
 /// A space and a word.
@@ -71,6 +72,18 @@ pub fn put_two(into: &mut Bytes, first: u64, second: u64) -> Result<(), AllocErr
 {
     put_number(into, first)?;
     put_number(into, second)
+}
+
+/// Two lower-case digits for each byte.
+fn put_bytes(into: &mut Bytes, bytes: &[u8]) -> Result<(), AllocError>
+    ensures { OnOk result (into.new ≡ into.old ++ encode_lower bytes.now) }
+{
+    let none = Bytes::new(into.allocator());
+    let mut text = mem::replace(into, none).into_vec();
+    let added = append_hex(&mut text, bytes);
+    *into = Bytes::from_vec(text);
+    added?;
+    Ok(())
 }
 
 /// A space, and two lower-case digits for each byte.

@@ -2,18 +2,17 @@
 
 ghost use Rattle.std.specs.Prelude.{◌≡◌, ◌++◌, OnOk};
 ghost use Rattle.std.specs.List.{join_with_byte};
-ghost use Rattle.vd_script.specs.Gives.{Gives};
+ghost use Rattle.vd_words.specs.Gives.{Gives};
 ghost use Rattle.vd_model.specs.QueueLines.{queue_form, queue_text};
 ghost use Rattle.vd_model.specs.Spelling.{with_name};
 ghost use Rattle.vd_model.specs.Forms.{part_field, parts_form, submit_form};
 ghost use Rattle.vd_model.specs.declared.step.QueueStep.TheVariants.{Add, Submit};
 
-use crate::error::LineError;
 use crate::form::read_form;
 use crate::put::{begin, put_parts, put_submit_form};
-use crate::words::Words;
 use std::alloc::{AllocError, Global};
 use vd_model::{Bytes, Part, Parts, QueueStep, QueueWord, SubmitForm, Text};
+use vd_words::{LineError, Words};
 
 fn part_of(word: &[u8]) -> Result<Part, LineError>
     ensures { Gives result (part_field word.now) }

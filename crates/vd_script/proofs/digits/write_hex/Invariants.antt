@@ -1,8 +1,0 @@
-use Rattle.vd_script.proofs.HexDigits.{DigitsSoFar}
-use Rattle.vd_script.proofs.digits.write_hex.Given as goal
-
-abbrev pub invariant-loop-left : goal.invariant-loop-left
-invariant-loop-left l = DigitsSoFar l.number l.left l.at l.buffer
-
-abbrev pub decreases-loop-left : goal.decreases-loop-left
-decreases-loop-left l = l.left

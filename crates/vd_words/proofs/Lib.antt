@@ -1,0 +1,4 @@
+pub mod Cutting
+pub mod Places
+pub mod KnownWords
+pub mod FirstWords
