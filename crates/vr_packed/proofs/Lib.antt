@@ -1,0 +1,9 @@
+pub mod Places
+pub mod FlagTests
+pub mod Chains
+pub mod Records
+pub mod Located
+pub mod Loops
+pub mod Moves
+pub mod Safe
+pub mod Fresh
