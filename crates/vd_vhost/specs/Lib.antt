@@ -1,0 +1,4 @@
+pub mod Told
+pub mod After
+pub mod Parts
+pub mod Steps
