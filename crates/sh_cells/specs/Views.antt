@@ -7,6 +7,7 @@ use Rattle.sh_cells.specs.declared.view.Entry.{Entry}
 use Rattle.sh_cells.specs.declared.view.Access.{Access}
 use Rattle.sh_cells.specs.declared.view.PageStore.{PageStore}
 use Rattle.sh_cells.specs.declared.view.PageRead.{PageRead}
+use Rattle.sh_cells.specs.declared.view.StepKind.TheVariants.{Drawn, WordStored, WordLoaded, PageStored, PageLoaded}
 use Rattle.sh_cells.specs.declared.view.View.{View}
 use Rattle.sh_cells.specs.Words.{zero_word}
 
@@ -21,7 +22,7 @@ page_store page side = record { page = page; side = side }
 
 -- the view that knows nothing: that of a pass which was joined into another
 abbrev pub nothing : View
-nothing = record { entries = []; puts = []; reads = []; page_stores = []; page_reads = []; left = 0; quota = 0 }
+nothing = record { entries = []; puts = []; reads = []; page_stores = []; page_reads = []; order = []; left = 0; quota = 0 }
 
 -- the first pass has done nothing, and may draw every stamp
 abbrev pub all_stamps : View
@@ -29,19 +30,19 @@ all_stamps = record nothing { left = 2 ^ 47; quota = 2 ^ 47 }
 
 -- a draw adds its entry, and one stamp fewer is left
 abbrev pub with_entry : View → Entry → View
-with_entry v e = record v { entries = v.entries ++ e ∷ []; left = v.left - 1 }
+with_entry v e = record v { entries = v.entries ++ e ∷ []; order = v.order ++ Drawn ∷ []; left = v.left - 1 }
 
 -- a store of a cell adds its put
 abbrev pub with_put : View → Access → View
-with_put v p = record v { puts = v.puts ++ p ∷ [] }
+with_put v p = record v { puts = v.puts ++ p ∷ []; order = v.order ++ WordStored ∷ [] }
 
 -- a load of a cell adds its read
 abbrev pub with_read : View → Access → View
-with_read v r = record v { reads = v.reads ++ r ∷ [] }
+with_read v r = record v { reads = v.reads ++ r ∷ []; order = v.order ++ WordLoaded ∷ [] }
 
 -- a store of a page word adds its page store
 abbrev pub with_page_store : View → PageStore → View
-with_page_store v s = record v { page_stores = v.page_stores ++ s ∷ [] }
+with_page_store v s = record v { page_stores = v.page_stores ++ s ∷ []; order = v.order ++ PageStored ∷ [] }
 
 abbrev pub is_side : Option Side → Bool
 is_side None = false
@@ -58,7 +59,7 @@ page_read page side stores = record { page = page; side = side; stored = makes_p
 
 -- a load of a page word adds its page read
 abbrev pub with_page_read : View → ℕ → Option Side → View
-with_page_read v page side = record v { page_reads = v.page_reads ++ page_read page side v.page_stores ∷ [] }
+with_page_read v page side = record v { page_reads = v.page_reads ++ page_read page side v.page_stores ∷ []; order = v.order ++ PageLoaded ∷ [] }
 
 -- a split keeps all lists in both views; a share of the stamps and of the quota goes over
 abbrev pub kept_of : ℕ → View → View
@@ -69,7 +70,7 @@ given_of share v = record v { left = share; quota = share }
 
 -- a join has the lists of both, one behind the other, and the sums of their stamps and quotas
 abbrev pub both_of : View → View → View
-both_of v w = record { entries = v.entries ++ w.entries; puts = v.puts ++ w.puts; reads = v.reads ++ w.reads; page_stores = v.page_stores ++ w.page_stores; page_reads = v.page_reads ++ w.page_reads; left = v.left + w.left; quota = v.quota + w.quota }
+both_of v w = record { entries = v.entries ++ w.entries; puts = v.puts ++ w.puts; reads = v.reads ++ w.reads; page_stores = v.page_stores ++ w.page_stores; page_reads = v.page_reads ++ w.page_reads; order = v.order ++ w.order; left = v.left + w.left; quota = v.quota + w.quota }
 
 -- each entry of the view lies in a memory of this many bytes
 abbrev pub LiesWithin : ℕ → View → Type 0

@@ -17,5 +17,5 @@ mod word;
 
 pub use cells::Cells;
 pub use pass::{DaemonPass, DriverPass, Log, Pass, Token};
-pub use view::{Access, Entry, PageRead, PageStore, View};
+pub use view::{Access, Entry, PageRead, PageStore, StepKind, View};
 pub use word::{Kind, Side, Word};

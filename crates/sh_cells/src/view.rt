@@ -31,14 +31,30 @@ pub struct PageRead {
     pub stored: bool,
 }
 
-/// The steps of a pass, each list in their order, the stamps that it may still draw, and its share
-/// of all 2^47 stamps.
+/// What kind of step a pass has made.
+pub enum StepKind {
+    /// A stamp was drawn, for an entry.
+    Drawn,
+    /// A cell was stored.
+    WordStored,
+    /// A cell was loaded.
+    WordLoaded,
+    /// A page word was stored.
+    PageStored,
+    /// A page word was loaded.
+    PageLoaded,
+}
+
+/// The steps of a pass: a list for each kind, in the order in which they were made, and the kinds of
+/// all of them in that order, which says how the lists run into each other. Then the stamps that the
+/// pass may still draw, and its share of all 2^47 stamps. What a join takes in stands behind.
 pub struct View {
     pub entries: LinkedList<Entry>,
     pub puts: LinkedList<Access>,
     pub reads: LinkedList<Access>,
     pub page_stores: LinkedList<PageStore>,
     pub page_reads: LinkedList<PageRead>,
+    pub order: LinkedList<StepKind>,
     pub left: u64,
     pub quota: u64,
 }

@@ -1,15 +1,19 @@
 -- A range gets one word more, or one page more.
 use Rattle.std.proofs.Common.{◌≡◌, ℕ, zero, suc, ◌+◌, ◌-◌, ◌*◌, ◌/◌, ◌%◌, ◌<◌, ◌≤◌, List, [], ◌∷◌, ◌++◌, length, take, drop, replicate, get_or, set, refl, ap, sym, subst, ◌∙◌, arith, append_assoc, map, min, Option, Some, None}
 use Rattle.std.specs.Prelude.{slice_range, slice_index}
-use Rattle.std.proofs.lemmas.List.{take_more, take_more_set, length-set, length-map, length-replicate}
+use Rattle.std.specs.Prelude.{flat_map}
+use Rattle.std.proofs.lemmas.List.{take_more, take_more_set, length-set, length-map, length-replicate, map-append}
+use Rattle.std.proofs.lemmas.Grind.{flat_map-append}
 use Rattle.sh_cells.specs.declared.word.Word.{Word}
 use Rattle.sh_cells.specs.declared.word.Side.{Side}
 use Rattle.sh_cells.specs.declared.word.Side.TheVariants.{First}
 use Rattle.sh_cells.specs.declared.word.Kind.TheVariants.{Zero}
 use Rattle.sh_cells.specs.declared.view.Access.{Access}
+use Rattle.sh_cells.specs.declared.view.StepKind.{StepKind}
+use Rattle.sh_cells.specs.declared.view.StepKind.TheVariants.{WordLoaded, WordStored}
 use Rattle.sh_cells.specs.declared.view.View.{View}
 use Rattle.sh_cells.specs.Views.{access, page_store, with_read, with_put, with_page_read, with_page_store}
-use Rattle.sh_device.specs.Spans.{words_of, bytes_of, least_of, with_reads, with_puts, with_found, side_in, accesses_on, with_bytes, zeros, Clears, with_shown, with_hidden, accesses, copied, Switches}
+use Rattle.sh_device.specs.Spans.{words_of, bytes_of, least_of, with_reads, with_puts, with_found, side_in, accesses_on, with_bytes, zeros, Clears, with_shown, with_hidden, accesses, copied, with_copied, Switches}
 
 pub bytes_of-snoc : (ws : List Word) (w : Word) → bytes_of (ws ++ w ∷ []) ≡ bytes_of ws ++ slice_index w.bytes 0 ∷ slice_index w.bytes 1 ∷ []
 bytes_of-snoc [] w = refl
@@ -56,11 +60,15 @@ two_there xs at i lt = (λ k. take (n k) (drop (m k) xs)) ∙ two_at xs i lt
     m : at + i - at ≡ i
     m = omega arith
 
+-- one step of a kind more, behind some of it
+more_steps : (kind : StepKind) (before : List StepKind) (xs : List Access) (x : Access) → (before ++ map (λ (y : Access). kind) xs) ++ kind ∷ [] ≡ before ++ map (λ (y : Access). kind) (xs ++ x ∷ [])
+more_steps kind before xs x = append_assoc before (map (λ (y : Access). kind) xs) (kind ∷ []) ∙ ap (λ (l : List StepKind). before ++ l) (sym (map-append (λ (y : Access). kind) xs (x ∷ [])))
+
 pub more_reads : (u v : View) (rs : List Access) (r : Access) → v ≡ with_reads u rs → with_read v r ≡ with_reads u (rs ++ r ∷ [])
-more_reads u v rs r is = ap (λ (x : View). with_read x r) is ∙ ap (λ (l : List Access). record u { reads = l }) (append_assoc u.reads rs (r ∷ []))
+more_reads u v rs r is = ap (λ (x : View). with_read x r) is ∙ (λ k. record u { reads = append_assoc u.reads rs (r ∷ []) k; order = more_steps WordLoaded u.order rs r k })
 
 pub more_puts : (u v : View) (ps : List Access) (p : Access) → v ≡ with_puts u ps → with_put v p ≡ with_puts u (ps ++ p ∷ [])
-more_puts u v ps p is = ap (λ (x : View). with_put x p) is ∙ ap (λ (l : List Access). record u { puts = l }) (append_assoc u.puts ps (p ∷ []))
+more_puts u v ps p is = ap (λ (x : View). with_put x p) is ∙ (λ k. record u { puts = append_assoc u.puts ps (p ∷ []) k; order = more_steps WordStored u.order ps p k })
 
 pub with_found-snoc : (v : View) (page : ℕ) (os : List (Option Side)) (o : Option Side) → with_found v page (os ++ o ∷ []) ≡ with_page_read (with_found v page os) (page + length os) o
 with_found-snoc v page [] o = ap (λ n. with_page_read v n o) (omega arith)
@@ -137,18 +145,22 @@ map-snoc f (x ∷ xs) w = ap (λ l. f x ∷ l) (map-snoc f xs w)
 
 -- a page's copy gets one word more: it was read, and its copy put
 pub more_copies : (u v : View) (stamp : ℕ) (from to : Side) (at : ℕ) (words : List Word) (w : Word)
-    → v ≡ with_puts (with_reads u (accesses from at words)) (accesses to at (map (copied stamp) words))
+    → v ≡ with_copied u stamp from to at words
     → with_put (with_read v (access from (at + 2 * length words) w)) (access to (at + 2 * length words) (copied stamp w))
-    ≡ with_puts (with_reads u (accesses from at (words ++ w ∷ []))) (accesses to at (map (copied stamp) (words ++ w ∷ [])))
+    ≡ with_copied u stamp from to at (words ++ w ∷ [])
 more_copies u v stamp from to at words w is =
     let ms : List Word = map (copied stamp) words in
     let n : ℕ = at + 2 * length words in
+    let both : Word → List StepKind = λ (y : Word). WordLoaded ∷ WordStored ∷ [] in
+    let done : List StepKind = flat_map both words in
     let same : at + 2 * length ms ≡ n = omega (arith, length-map words (copied stamp)) in
     let rs : u.reads ++ (accesses from at words ++ access from n w ∷ []) ≡ u.reads ++ accesses from at (words ++ w ∷ []) = ap (λ l. u.reads ++ l) (sym (accesses-snoc from at words w)) in
     let ps : u.puts ++ (accesses to at ms ++ access to n (copied stamp w) ∷ []) ≡ u.puts ++ accesses to at (map (copied stamp) (words ++ w ∷ [])) =
     ap (λ l. u.puts ++ l) (ap (λ (a : ℕ). accesses to at ms ++ access to a (copied stamp w) ∷ []) (sym same) ∙ sym (accesses-snoc to at ms (copied stamp w)) ∙ ap (accesses to at) (sym (map-snoc (copied stamp) words w))) in
+    let os : ((u.order ++ done) ++ WordLoaded ∷ []) ++ WordStored ∷ [] ≡ u.order ++ flat_map both (words ++ w ∷ []) =
+    append_assoc (u.order ++ done) (WordLoaded ∷ []) (WordStored ∷ []) ∙ append_assoc u.order done (WordLoaded ∷ WordStored ∷ []) ∙ ap (λ (l : List StepKind). u.order ++ l) (sym (flat_map-append both words (w ∷ []))) in
     ap (λ (x : View). with_put (with_read x (access from n w)) (access to n (copied stamp w))) is
-    ∙ (λ k. record u { reads = (append_assoc u.reads (accesses from at words) (access from n w ∷ []) ∙ rs) k; puts = (append_assoc u.puts (accesses to at ms) (access to n (copied stamp w) ∷ []) ∙ ps) k })
+    ∙ (λ k. record u { reads = (append_assoc u.reads (accesses from at words) (access from n w ∷ []) ∙ rs) k; puts = (append_assoc u.puts (accesses to at ms) (access to n (copied stamp w) ∷ []) ∙ ps) k; order = os k })
 
 -- pages that were switched, and then one more
 pub Switches-snoc : (v w x : View) (page : ℕ) (os : List (Option Side)) (o : Option Side) → Switches v page os w → Switches w (page + length os) (o ∷ []) x → Switches v page (os ++ o ∷ []) x

@@ -6,6 +6,7 @@ use Rattle.sh_cells.specs.declared.word.Side.TheVariants.{First}
 use Rattle.sh_cells.specs.declared.word.Kind.{Kind}
 use Rattle.sh_cells.specs.declared.word.Kind.TheVariants.{Zero}
 use Rattle.sh_cells.specs.declared.view.Access.{Access}
+use Rattle.sh_cells.specs.declared.view.StepKind.TheVariants.{WordLoaded, WordStored}
 use Rattle.sh_cells.specs.declared.view.View.{View}
 use Rattle.sh_cells.specs.Views.{access, entry, page_store, with_entry, with_page_read, with_page_store}
 
@@ -24,11 +25,13 @@ abbrev pub least_of : List Word → ℕ
 least_of [] = 18446744073709551615
 least_of (w ∷ ws) = min w.stamp (least_of ws)
 
+-- words were loaded, one after another
 abbrev pub with_reads : View → List Access → View
-with_reads v rs = record v { reads = v.reads ++ rs }
+with_reads v rs = record v { reads = v.reads ++ rs; order = v.order ++ map (λ (r : Access). WordLoaded) rs }
 
+-- words were stored, one after another
 abbrev pub with_puts : View → List Access → View
-with_puts v ps = record v { puts = v.puts ++ ps }
+with_puts v ps = record v { puts = v.puts ++ ps; order = v.order ++ map (λ (p : Access). WordStored) ps }
 
 -- the pages from this one on were found so
 abbrev pub with_found : View → ℕ → List (Option Side) → View
@@ -88,10 +91,17 @@ accesses side at (w ∷ ws) = access side at w ∷ accesses side (at + 2) ws
 abbrev pub copied : ℕ → Word → Word
 copied stamp w = if w.stamp == 0 then record { stamp = stamp; bytes = 0 ∷ 0 ∷ [] } else w
 
--- a zero entry was drawn over a page, its words were read on one side, and their copies put on the other
+-- words were loaded on one side, and the copy of each stored on the other before the next was loaded
+abbrev pub with_copied : View → ℕ → Side → Side → ℕ → List Word → View
+with_copied v stamp from to at words = record v {
+  reads = v.reads ++ accesses from at words;
+  puts = v.puts ++ accesses to at (map (copied stamp) words);
+  order = v.order ++ flat_map (λ (w : Word). WordLoaded ∷ WordStored ∷ []) words;
+}
+
+-- a zero entry was drawn over a page, and its words were copied from one side to the other
 abbrev pub with_copies : View → ℕ → Side → Side → ℕ → List Word → View
-with_copies v stamp from to page words =
-    with_puts (with_reads (with_entry v (entry stamp Zero (4096 * page) zeros)) (accesses from (4096 * page) words)) (accesses to (4096 * page) (map (copied stamp) words))
+with_copies v stamp from to page words = with_copied (with_entry v (entry stamp Zero (4096 * page) zeros)) stamp from to (4096 * page) words
 
 -- a page went to a side: what stands on the side on which it was found was copied there, or it was cleared there if it was absent
 abbrev pub Moves : View → ℕ → Option Side → Side → View → Type 0

@@ -17,7 +17,7 @@ use std::thread::{Threads, join, join_mut, yield_now};
 use vd_num::Bus;
 
 /// How often the driver maps, and how often the daemon loads.
-const ROUNDS: u64 = 2_000;
+const ROUNDS: u64 = 100_000;
 
 #[test]
 fn a_session_of_one_driver(rt: HostRuntime) -> Result<(), Fail> {

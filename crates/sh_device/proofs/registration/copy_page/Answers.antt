@@ -1,4 +1,4 @@
-use Rattle.std.proofs.Common.{◌≡◌, ◌≢◌, ℕ, ◌+◌, ◌*◌, ◌<◌, List, ◌++◌, ◌∷◌, [], length, length-append, arith, refl, sym, ap, ◌∙◌, subst, map, if◌then◌else◌, ◌==◌, Bool}
+use Rattle.std.proofs.Common.{◌≡◌, ◌≢◌, ℕ, ◌+◌, ◌*◌, ◌<◌, List, ◌++◌, ◌∷◌, [], length, length-append, arith, refl, sym, ap, ◌∙◌, subst, if◌then◌else◌, ◌==◌, Bool}
 use Rattle.std.proofs.lemmas.Bool.{ne_eqb}
 use Rattle.sh_cells.specs.declared.word.Word.{Word}
 use Rattle.sh_cells.specs.declared.word.Side.{Side}
@@ -7,7 +7,7 @@ use Rattle.sh_cells.specs.Passes.{view}
 use Rattle.sh_cells.specs.Views.{access, with_read, with_put}
 use Rattle.sh_cells.specs.Backed.{MayPut}
 use Rattle.sh_cells.proofs.Callers.{just_drew, just_read}
-use Rattle.sh_device.specs.Spans.{accesses, copied, with_reads, with_puts}
+use Rattle.sh_device.specs.Spans.{copied, with_copied}
 use Rattle.sh_device.proofs.Spans.{zeros_there, more_copies}
 use Rattle.sh_device.proofs.registration.copy_page.Goals as goal
 use Rattle.sh_device.proofs.registration.copy_page.Goals.{then-word-eq0, else-word-eq0}
@@ -37,9 +37,9 @@ copied_same stamp w not = ap (λ (b : Bool). if b then record { stamp = stamp; b
 -- what a put of the word's copy leaves
 step : (u v r p : View) (stamp : ℕ) (from to : Side) (at i : ℕ) (words : List Word) (w m : Word)
     → i ≡ 2 * length words → m ≡ copied stamp w
-    → v ≡ with_puts (with_reads u (accesses from at words)) (accesses to at (map (copied stamp) words))
+    → v ≡ with_copied u stamp from to at words
     → r ≡ with_read v (access from (at + i) w) → p ≡ with_put r (access to (at + i) m)
-    → p ≡ with_puts (with_reads u (accesses from at (words ++ w ∷ []))) (accesses to at (map (copied stamp) (words ++ w ∷ [])))
+    → p ≡ with_copied u stamp from to at (words ++ w ∷ [])
 step u v r p stamp from to at i words w m count same is read put =
     put ∙ ap (λ (x : View). with_put x (access to (at + i) m)) read ∙ (λ k. with_put (with_read v (access from (at + count k) w)) (access to (at + count k) (same k))) ∙ more_copies u v stamp from to at words w is
 
