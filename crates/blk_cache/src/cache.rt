@@ -88,8 +88,10 @@ impl<D: Disk + Drop> Cache<D> {
     /// Writes one dirty sector to the disk.
     fn write_back_one(&mut self, sector: u64) -> Result<(), Failed>
         requires { sector < length self.old.dirty.lines }
-        ensures moves { Moves D.tells D.present D.may_leave D.through self.old.disk self.new.disk self.old.dirty self.new.dirty }
-        ensures ok { OnOk result (self.new.dirty.len + mark (bytes_at self.old.dirty sector) ≡ self.old.dirty.len) }
+        ensures moves { Moves D.tells D.present D.may_leave D.through self.old.disk self.new.disk
+            self.old.dirty self.new.dirty }
+        ensures ok { OnOk result (self.new.dirty.len + mark (bytes_at self.old.dirty sector)
+            ≡ self.old.dirty.len) }
         ensures len { self.new.dirty.len ≤ self.old.dirty.len }
         ensures size { D.size self.new.disk ≡ D.size self.old.disk }
         ensures cause { HasCause (D.faults self.old.disk) (D.faults self.new.disk) result }
@@ -106,11 +108,13 @@ impl<D: Disk + Drop> Cache<D> {
 
     /// Writes dirty sectors to the disk, in ascending order, until at most so many are dirty.
     pub(crate) fn write_back(&mut self, most: u64) -> Result<(), Failed>
-        ensures moves { Moves D.tells D.present D.may_leave D.through self.old.disk self.new.disk self.old.dirty self.new.dirty }
+        ensures moves { Moves D.tells D.present D.may_leave D.through self.old.disk self.new.disk
+            self.old.dirty self.new.dirty }
         ensures ok { OnOk result (self.new.dirty.len ≤ most) }
         ensures none { OnOk result (most ≡ 0 → (s : ℕ) → bytes_at self.new.dirty s ≡ None) }
         ensures len { self.new.dirty.len ≤ self.old.dirty.len }
-        ensures idle { self.old.dirty.len ≤ most → (self.new.disk ≡ self.old.disk) × (self.new.dirty ≡ self.old.dirty) }
+        ensures idle { self.old.dirty.len ≤ most →
+            (self.new.disk ≡ self.old.disk) × (self.new.dirty ≡ self.old.dirty) }
         ensures size { D.size self.new.disk ≡ D.size self.old.disk }
         ensures cause { HasCause (D.faults self.old.disk) (D.faults self.new.disk) result }
         ensures lines { self.new.lines ≡ self.old.lines }
@@ -130,9 +134,11 @@ impl<D: Disk + Drop> Cache<D> {
     pub(crate) fn make_room(&mut self, sector: u64, count: u64) -> Result<(), Failed>
         requires inside { sector + count ≤ D.size self.old.disk }
         requires few { count ≤ 32768 }
-        ensures moves { Moves D.tells D.present D.may_leave D.through self.old.disk self.new.disk self.old.dirty self.new.dirty }
+        ensures moves { Moves D.tells D.present D.may_leave D.through self.old.disk self.new.disk
+            self.old.dirty self.new.dirty }
         ensures whole { AreLines (bytes_at self.old.dirty) }
-        ensures ok { OnOk result (self.new.dirty.len + clean (bytes_at self.new.dirty) sector count ≤ self.new.dirty.room) }
+        ensures ok { OnOk result (self.new.dirty.len + clean (bytes_at self.new.dirty) sector count
+            ≤ self.new.dirty.room) }
         ensures idle { self.old.dirty.len + clean (bytes_at self.old.dirty) sector count ≤ self.old.lines →
             (self.new.disk ≡ self.old.disk) × (self.new.dirty ≡ self.old.dirty) }
         ensures size { D.size self.new.disk ≡ D.size self.old.disk }
@@ -153,7 +159,8 @@ impl<D: Disk + Drop> Cache<D> {
         requires { IsSpan (D.size self.old.disk) sector (length into.old) }
         ensures read { D.tells ≡ true → OnOk result ((s : ℕ) → sector ≤ s → s < sector + length into.old / 512 →
             bytes_at self.old.dirty s ≡ None → piece sector into.new s ≡ D.present self.old.disk s) }
-        ensures moves { Moves D.tells D.present D.may_leave D.through self.old.disk self.new.disk self.old.dirty self.new.dirty }
+        ensures moves { Moves D.tells D.present D.may_leave D.through self.old.disk self.new.disk
+            self.old.dirty self.new.dirty }
         ensures whole { AreLines (bytes_at self.old.dirty) }
         ensures dirty { self.new.dirty ≡ self.old.dirty }
         ensures size { D.size self.new.disk ≡ D.size self.old.disk }

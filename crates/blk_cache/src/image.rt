@@ -26,7 +26,9 @@ impl<D: Disk + Drop> Image for Cache<D> {
 
     fn read_at(&mut self, sector: u64, into: &mut [u8]) -> Result<(), Failed>
         requires { IsSpan (D.size self.old.disk) sector (length into.old) }
-        ensures read { OnOk result (IsRead sector into.new (content_of D.tells (now self.old.dirty (D.present self.old.disk)) (D.size self.old.disk))) }
+        ensures read { OnOk result (IsRead sector into.new
+            (content_of D.tells (now self.old.dirty (D.present self.old.disk))
+            (D.size self.old.disk))) }
         ensures kept { content_of D.tells (now self.new.dirty (D.present self.new.disk)) (D.size self.new.disk)
             ≡ content_of D.tells (now self.old.dirty (D.present self.old.disk)) (D.size self.old.disk) }
         ensures size { D.size self.new.disk ≡ D.size self.old.disk }
@@ -63,7 +65,8 @@ impl<D: Disk + Drop> Image for Cache<D> {
             × Keeps (kept_with sector bytes.now kept) (now self.new.dirty (D.present self.new.disk)) (D.may_leave self.new.disk) }
 
         // At most `lines` sectors are dirty afterwards, if no call on the disk failed.
-        ensures bounded { OnOk result ((Rose (D.faults self.old.disk) (D.faults self.new.disk) → ⊥) → self.new.dirty.len ≤ self.new.lines) }
+        ensures bounded { OnOk result ((Rose (D.faults self.old.disk) (D.faults self.new.disk) → ⊥)
+            → self.new.dirty.len ≤ self.new.lines) }
 
         // Where its sectors fit beside the dirty ones, the disk isn't called.
         ensures idle { self.old.dirty.len + clean (bytes_at self.old.dirty) sector (length bytes.now / 512) ≤ self.old.lines →
@@ -91,7 +94,8 @@ impl<D: Disk + Drop> Image for Cache<D> {
             D.through kept self.old.disk self.new.disk × Keeps kept (now self.new.dirty (D.present self.new.disk)) (D.may_leave self.new.disk) }
         ensures settled { D.tells ≡ true → OnOk result (Keeps (newest_alone (now self.old.dirty (D.present self.old.disk)))
             (now self.new.dirty (D.present self.new.disk)) (D.may_leave self.new.disk)) }
-        ensures single { D.tells ≡ true → OnOk result (AreSingle (D.present self.new.disk) (D.may_leave self.new.disk)) }
+        ensures single { D.tells ≡ true →
+            OnOk result (AreSingle (D.present self.new.disk) (D.may_leave self.new.disk)) }
         ensures clean { OnOk result (self.new.dirty.len ≡ 0) }
         ensures unflushed { OnErr result (self.new.flushes ≡ self.old.flushes) }
         ensures lines { self.new.lines ≡ self.old.lines }

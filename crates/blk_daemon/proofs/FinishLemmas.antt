@@ -11,22 +11,22 @@ use Rattle.vd_model.specs.Queues.{Execution}
 use Rattle.vd_model.specs.DaemonTurns.{Hand}
 use Rattle.vr_device.specs.Side.{Side}
 use Rattle.vr_device.specs.Device.{both_read, used_fields, element_bytes, with_element, interrupt, by_event, by_flags}
-use Rattle.blk_daemon.specs.Finished.{missing_at, first_of, first_unwritable, deciding_field_at, first_missing, spread_over, answer_bytes, finished_memory, used_next, Finishes}
+use Rattle.blk_daemon.specs.Finished.{missing_at, either_of, first_unwritable, deciding_field_at, first_missing, spread_over, answer_bytes, finished_memory, used_next, Finishes}
 use Rattle.blk_daemon.specs.declared.finish.Finished.{Finished}
 use Rattle.blk_daemon.specs.declared.error.FinishError.{FinishError}
 use Rattle.blk_daemon.specs.declared.error.FinishError.TheVariants.{Bus}
 use Rattle.blk_daemon.proofs.SpreadLemmas.{read-stays, not_both}
 
-none_then : (a b : Option ℕ) → a ≡ None → first_of a b ≡ b
-none_then a b e = ap (λ x. first_of x b) e
+none_then : (a b : Option ℕ) → a ≡ None → either_of a b ≡ b
+none_then a b e = ap (λ x. either_of x b) e
 
 -- the used element or the used index can't be accessed
-fields_missing : (a b : Result (List ℕ) ℕ) (at : ℕ) (rest : Option ℕ) → both_read a b ≡ Err at → first_of (missing_at a) (first_of (missing_at b) rest) ≡ Some at
-fields_missing (Ok bytes) b at rest e = ap (λ x. first_of (missing_at x) rest) e
+fields_missing : (a b : Result (List ℕ) ℕ) (at : ℕ) (rest : Option ℕ) → both_read a b ≡ Err at → either_of (missing_at a) (either_of (missing_at b) rest) ≡ Some at
+fields_missing (Ok bytes) b at rest e = ap (λ x. either_of (missing_at x) rest) e
 fields_missing (Err missing) b at rest e = let same : missing ≡ at = cc in ap Some same
 
 -- both can be
-fields_there : (a b : Result (List ℕ) ℕ) (rest : Option ℕ) → IsOk (both_read a b) → first_of (missing_at a) (first_of (missing_at b) rest) ≡ rest
+fields_there : (a b : Result (List ℕ) ℕ) (rest : Option ℕ) → IsOk (both_read a b) → either_of (missing_at a) (either_of (missing_at b) rest) ≡ rest
 fields_there (Ok bytes) (Ok more) rest e = refl
 fields_there (Ok bytes) (Err at) rest e = absurd (cc)
 fields_there (Err at) b rest e = absurd (cc)
@@ -96,7 +96,7 @@ fields-stay m side parts bytes h =
 module _ (m : Memory) (side : Side) (event_idx : Bool) (parts : List Part) where
   pub part_fails : (at : ℕ) → first_unwritable m parts ≡ Some at → first_missing m side event_idx parts ≡ Some at
   part_fails at e =
-      ap (λ o. first_of o (first_of (missing_at (read m (used_element_at side.place side.used) 8)) (first_of (missing_at (read m (used_index_at side.place) 2)) (missing_at (read m (deciding_field_at event_idx side.place) 2))))) e
+      ap (λ o. either_of o (either_of (missing_at (read m (used_element_at side.place side.used) 8)) (either_of (missing_at (read m (used_index_at side.place) 2)) (missing_at (read m (deciding_field_at event_idx side.place) 2))))) e
 
   pub fields_fail : (bus : Unmapped) → first_unwritable m parts ≡ None → used_fields m side ≡ Err bus.at → first_missing m side event_idx parts ≡ Some bus.at
   fields_fail bus none e = none_then (first_unwritable m parts) _ none ∙ fields_missing (read m (used_element_at side.place side.used) 8) (read m (used_index_at side.place) 2) bus.at _ e

@@ -5,7 +5,7 @@ use Rattle.std.proofs.Math.Seq.{drop-cons}
 use Rattle.vd_model.specs.Memory.{Memory, IsFinite, read, byte_then, written}
 use Rattle.vd_model.specs.declared.parts.Part.{Part}
 use Rattle.vr_split.specs.ReachLemmas.{there-written}
-use Rattle.blk_daemon.specs.Finished.{missing_at, first_of, first_unwritable, spread_over}
+use Rattle.blk_daemon.specs.Finished.{missing_at, either_of, first_unwritable, spread_over}
 
 -- A RANGE in pieces
 
@@ -94,30 +94,30 @@ missing_none : (r : Result (List ℕ) ℕ) → IsOk r → missing_at r ≡ None
 missing_none (Ok bytes) e = refl
 missing_none (Err at) e = absurd (cc)
 
-first_none : (a b : Option ℕ) → first_of a b ≡ None → (a ≡ None) × (b ≡ None)
+first_none : (a b : Option ℕ) → either_of a b ≡ None → (a ≡ None) × (b ≡ None)
 first_none None b e = (refl, e)
 first_none (Some at) b e = absurd (cc)
 
-both_none : (a b : Option ℕ) → a ≡ None → b ≡ None → first_of a b ≡ None
+both_none : (a b : Option ℕ) → a ≡ None → b ≡ None → either_of a b ≡ None
 both_none None b e f = f
 both_none (Some at) b e f = absurd (cc)
 
 -- the next part that the device writes is there, and so are those after it
 pub next_there : (m : Memory) (p : Part) (rest : List Part) → p.writable ≡ true → first_unwritable m (p ∷ rest) ≡ None → IsOk (read m p.at p.len) × (first_unwritable m rest ≡ None)
 next_there m p rest writes e =
-    let split : first_of (missing_at (read m p.at p.len)) (first_unwritable m rest) ≡ None = rw writes at e in
+    let split : either_of (missing_at (read m p.at p.len)) (first_unwritable m rest) ≡ None = rw writes at e in
     let both = first_none (missing_at (read m p.at p.len)) (first_unwritable m rest) split in
     (none_missing (read m p.at p.len) both.0, both.1)
 
 -- a store takes nothing away
-part_stays : (m : Memory) (to : ℕ) (bytes : List ℕ) (p : Part) (w : Bool) (a b : Option ℕ) → (b ≡ None) → (if w then first_of (missing_at (read m p.at p.len)) a else a) ≡ None
-    → (if w then first_of (missing_at (read (written m to bytes) p.at p.len)) b else b) ≡ None
+part_stays : (m : Memory) (to : ℕ) (bytes : List ℕ) (p : Part) (w : Bool) (a b : Option ℕ) → (b ≡ None) → (if w then either_of (missing_at (read m p.at p.len)) a else a) ≡ None
+    → (if w then either_of (missing_at (read (written m to bytes) p.at p.len)) b else b) ≡ None
 part_stays m to bytes p true a b rest e =
     let there = none_missing (read m p.at p.len) (first_none (missing_at (read m p.at p.len)) a e).0 in
     both_none _ b (missing_none _ (read-stays m to bytes p.at p.len there)) rest
 part_stays m to bytes p false a b rest e = rest
 
-rest_none : (w : Bool) (r a : Option ℕ) → (if w then first_of r a else a) ≡ None → a ≡ None
+rest_none : (w : Bool) (r a : Option ℕ) → (if w then either_of r a else a) ≡ None → a ≡ None
 rest_none true r a e = (first_none r a e).1
 rest_none false r a e = e
 
@@ -168,7 +168,7 @@ drop_next parts i d within =
 
 -- the next part, which the device writes or reads
 pub part_there : (m : Memory) (p : Part) (rest : List Part) → p.writable ≡ true → IsOk (read m p.at p.len) → first_unwritable m (p ∷ rest) ≡ first_unwritable m rest
-part_there m p rest writes there = rw writes (ap (λ o. first_of o (first_unwritable m rest)) (missing_none (read m p.at p.len) there))
+part_there m p rest writes there = rw writes (ap (λ o. either_of o (first_unwritable m rest)) (missing_none (read m p.at p.len) there))
 
 pub part_missing : (m : Memory) (p : Part) (rest : List Part) (at : ℕ) → p.writable ≡ true → read m p.at p.len ≡ Err at → first_unwritable m (p ∷ rest) ≡ Some at
 part_missing m p rest at writes fails = rw (writes, fails) refl

@@ -16,11 +16,11 @@ use Rattle.blk_daemon.specs.declared.error.FetchError.{FetchError}
 use Rattle.blk_daemon.specs.declared.error.FetchError.TheVariants.{Busy, Empty, Shape, Bus}
 use Rattle.blk_daemon.specs.declared.request.Fetched.{Fetched}
 use Rattle.blk_daemon.specs.Errors.{fetch_error}
-use Rattle.blk_daemon.specs.Held.{Held, InHand, hand_of}
+use Rattle.blk_daemon.specs.Held.{Held, InHand, hand_with}
 
 -- the bytes that were read, or the first address that can't be accessed
 abbrev pub with_bytes : Chain → Result (List ℕ) ℕ → Result Hand FetchError
-with_bytes chain (Ok bytes) = Ok (hand_of chain bytes)
+with_bytes chain (Ok bytes) = Ok (hand_with chain bytes)
 with_bytes chain (Err at) = Err (Bus at)
 
 -- a chain is a request where the device reads 16 bytes and writes one at least

@@ -21,14 +21,14 @@ abbrev pub missing_at : Result (List ℕ) ℕ → Option ℕ
 missing_at (Ok bytes) = None
 missing_at (Err at) = Some at
 
-abbrev pub first_of : Option ℕ → Option ℕ → Option ℕ
-first_of (Some at) rest = Some at
-first_of None rest = rest
+abbrev pub either_of : Option ℕ → Option ℕ → Option ℕ
+either_of (Some at) rest = Some at
+either_of None rest = rest
 
 -- the first address of the parts that the device writes
 abbrev pub first_unwritable : Memory → List Part → Option ℕ
 first_unwritable m [] = None
-first_unwritable m (part ∷ parts) = if part.writable then first_of (missing_at (read m part.at part.len)) (first_unwritable m parts) else first_unwritable m parts
+first_unwritable m (part ∷ parts) = if part.writable then either_of (missing_at (read m part.at part.len)) (first_unwritable m parts) else first_unwritable m parts
 
 -- the field that decides whether the driver is interrupted
 abbrev pub deciding_field_at : Bool → RingPlace → ℕ
@@ -38,9 +38,9 @@ deciding_field_at false place = available_flags_at place
 -- and then of the used element, the used index and that field
 abbrev pub first_missing : Memory → Side → Bool → List Part → Option ℕ
 first_missing m side event_idx parts =
-    first_of (first_unwritable m parts)
-    (first_of (missing_at (read m (used_element_at side.place side.used) 8))
-    (first_of (missing_at (read m (used_index_at side.place) 2))
+    either_of (first_unwritable m parts)
+    (either_of (missing_at (read m (used_element_at side.place side.used) 8))
+    (either_of (missing_at (read m (used_index_at side.place) 2))
     (missing_at (read m (deciding_field_at event_idx side.place) 2))))
 
 -- WHAT IS STORED

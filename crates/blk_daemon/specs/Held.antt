@@ -41,8 +41,8 @@ to_execute (Some r) = unless_executed r.hand r.outcome
 
 -- THE INSIDE of a request: its chain, the bytes that the device reads, and those that it writes with the status last
 
-abbrev pub hand_of : Chain → List ℕ → Hand
-hand_of chain bytes = record { head = chain.head; parts = chain.parts; writable = chain.writable; bytes = bytes }
+abbrev pub hand_with : Chain → List ℕ → Hand
+hand_with chain bytes = record { head = chain.head; parts = chain.parts; writable = chain.writable; bytes = bytes }
 
 -- the status is the last byte
 abbrev pub outcome_in : List ℕ → Execution

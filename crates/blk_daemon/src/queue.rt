@@ -172,7 +172,8 @@ impl BlkQueue {
         ensures refused { IsErr result ↔ (to_execute self.old.request ≡ None) }
         ensures stays { OnErr result (self.new ≡ self.old) }
         ensures disk_stays { OnErr result (disk.new ≡ disk.old) }
-        ensures executed { IfOk result (IsExecuted I.content I.faults I.flushes window offered self.old disk.old self.new disk.new) }
+        ensures executed { IfOk result (IsExecuted I.content I.faults I.flushes window offered
+            self.old disk.old self.new disk.new) }
         ensures size { I.size disk.new ≡ I.size disk.old }
     {
         let Some(request) = &mut self.request else {

@@ -3,7 +3,7 @@ ghost use Rattle.std.specs.Prelude.{◌≡◌, ◌<◌, ◌≤◌, ◌+◌, Some
 ghost use Rattle.vd_model.specs.Queues.{Execution};
 ghost use Rattle.vd_model.specs.Block.{block_of};
 ghost use Rattle.vd_model.specs.declared.parts.Chain.{Chain};
-ghost use Rattle.blk_daemon.specs.Held.{InHand, IsSound, chain_in, hand_of};
+ghost use Rattle.blk_daemon.specs.Held.{InHand, IsSound, chain_in, hand_with};
 ghost use Rattle.blk_daemon.specs.Executed.{Executes};
 ghost use Rattle.blk_daemon.specs.Fetched.{Shows};
 ghost use Rattle.blk_daemon.specs.Finished.{answer_bytes};
@@ -35,11 +35,11 @@ pub struct Request {
 }
 
 impl Model for Request {
-    ghost use Rattle.blk_daemon.specs.Held.{InHand, IsSound, hand_of, outcome_of};
+    ghost use Rattle.blk_daemon.specs.Held.{InHand, IsSound, hand_with, outcome_of};
 
     ghost Value = { InHand };
 
-    ghost view = { λ r. record { hand = hand_of r.chain r.bytes.items; outcome = outcome_of r.is_executed r.answer.items } };
+    ghost view = { λ r. record { hand = hand_with r.chain r.bytes.items; outcome = outcome_of r.is_executed r.answer.items } };
 
     ghost invariant = { λ r. IsSound r.chain r.bytes.items r.answer.items r.is_executed };
 }
@@ -48,7 +48,7 @@ impl Request {
     /// A request of which nothing was written yet.
     pub fn new(chain: Chain, bytes: Vec<u8>, answer: Vec<u8>) -> Request
         requires { IsSound chain bytes.items answer.items false }
-        ensures { result ≡ record { hand = hand_of chain bytes.items; outcome = None } }
+        ensures { result ≡ record { hand = hand_with chain bytes.items; outcome = None } }
     {
         Request {
             chain,

@@ -159,7 +159,8 @@ impl Dirty {
         requires inside { sector < length self.old.lines }
         requires whole { length bytes.now ≡ 512 }
         requires fits { bytes_at self.old sector ≡ None → self.old.len < self.old.room }
-        ensures bytes { (s : ℕ) → bytes_at self.new s ≡ with_bytes sector (Some bytes.now) (bytes_at self.old) s }
+        ensures bytes { (s : ℕ) →
+            bytes_at self.new s ≡ with_bytes sector (Some bytes.now) (bytes_at self.old) s }
         ensures len { self.new.len ≡ self.old.len + (1 - mark (bytes_at self.old sector)) }
         ensures room { self.new.room ≡ self.old.room }
         ensures sectors { length self.new.lines ≡ length self.old.lines }
@@ -213,8 +214,11 @@ impl Dirty {
     /// Makes whole sectors dirty from this one on, with these bytes.
     pub fn put_all(&mut self, first: u64, bytes: &[u8])
         requires inside { IsSpan (length self.old.lines) first (length bytes.now) }
-        requires fits { self.old.len + clean (bytes_at self.old) first (length bytes.now / 512) ≤ self.old.room }
-        ensures bytes { (s : ℕ) → bytes_at self.new s ≡ with_pieces first (length bytes.now / 512) bytes.now (bytes_at self.old) s }
+        requires fits { self.old.len + clean (bytes_at self.old) first (length bytes.now / 512) ≤
+            self.old.room }
+        ensures bytes { (s : ℕ) →
+            bytes_at self.new s ≡ with_pieces first (length bytes.now / 512) bytes.now
+            (bytes_at self.old) s }
         ensures len { self.new.len ≤ self.old.len + clean (bytes_at self.old) first (length bytes.now / 512) }
         ensures room { self.new.room ≡ self.old.room }
         ensures sectors { length self.new.lines ≡ length self.old.lines }
@@ -229,7 +233,8 @@ impl Dirty {
     /// Puts the bytes of the dirty sectors over those of whole sectors from this one on.
     pub fn copy_over(&self, first: u64, into: &mut [u8])
         requires { IsSpan (length self.now.lines) first (length into.old) }
-        ensures { into.new ≡ joined (over (bytes_at self.now) (piece first into.old)) first (length into.old / 512) }
+        ensures { into.new ≡ joined (over (bytes_at self.now) (piece first into.old)) first
+            (length into.old / 512) }
     {
         let _ = &self.lines;
         for i in 0..into.len() / SECTOR_SIZE {

@@ -47,7 +47,8 @@ pub trait Disk {
     /// Reads whole sectors from this one on.
     fn read(&mut self, sector: u64, into: &mut [u8]) -> Result<(), Failed>
         requires { IsSpan (size self.old) sector (length into.old) }
-        ensures read { tells ≡ true → OnOk result (into.new ≡ joined (present self.old) sector (length into.old / 512)) }
+        ensures read { tells ≡ true →
+            OnOk result (into.new ≡ joined (present self.old) sector (length into.old / 512)) }
         ensures kept { tells ≡ true → (s : ℕ) → present self.new s ≡ present self.old s }
         ensures lists { tells ≡ true → (s : ℕ) → may_leave self.new s ≡ may_leave self.old s }
         ensures moments { tells ≡ true → (map : ℕ → List (List ℕ)) →
@@ -63,7 +64,8 @@ pub trait Disk {
         ensures written { tells ≡ true → OnOk result (present self.new sector ≡ bytes.now) }
         ensures either { tells ≡ true → IsEither sector bytes.now (present self.old) (present self.new) }
         ensures others { tells ≡ true → (s : ℕ) → s ≢ sector → present self.new s ≡ present self.old s }
-        ensures lists { tells ≡ true → IsListedWrite sector bytes.now (may_leave self.old) (may_leave self.new) }
+        ensures lists { tells ≡ true →
+            IsListedWrite sector bytes.now (may_leave self.old) (may_leave self.new) }
         ensures listed { tells ≡ true → Has (present self.new sector) (may_leave self.new sector) }
         ensures moments { tells ≡ true → (map : ℕ → List (List ℕ)) →
             Lie map (may_leave self.old) → Lie map (may_leave self.new) → through map self.old self.new }

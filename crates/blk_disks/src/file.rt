@@ -23,7 +23,8 @@ impl<F: RandomAccess + Drop> FileDisk<F> {
     /// sector isn't used. It fails only where the file's size can't be had.
     pub fn new(file: F) -> Result<FileDisk<F>, Failed>
         ensures file { IfOk result (λ d. d.image.file ≡ file) }
-        ensures sectors { IfOk result (λ d. (size : ℕ) × HasSize (F.bytes file) size × (d.image.sectors ≡ size / 512)) }
+        ensures sectors { IfOk result
+            (λ d. (size : ℕ) × HasSize (F.bytes file) size × (d.image.sectors ≡ size / 512)) }
         ensures faults { IfOk result (λ d. d.image.faults ≡ 0) }
         ensures calls { IfOk result (λ d. d.calls ≡ 0) }
     {

@@ -37,9 +37,9 @@ abbrev pub wants_of : Draft → List Want
 wants_of d = part_wants d.buffer (asked_in d.ask) ++ table_wants d.indirect d.buffer (asked_in d.ask)
 
 -- how many bytes of some ranges the device may write
-abbrev pub writable_len : List Want → ℕ
-writable_len [] = 0
-writable_len (want ∷ wants) = (if is_from_device want.dir then want.len else 0) + writable_len wants
+abbrev pub written_len : List Want → ℕ
+written_len [] = 0
+written_len (want ∷ wants) = (if is_from_device want.dir then want.len else 0) + written_len wants
 
 -- a request under the features that the driver accepted: INDIRECT_DESC is 28, EVENT_IDX is 29
 abbrev pub draft_of : Ask → ℕ → ℕ → Draft

@@ -1,7 +1,7 @@
 //! What is asked of a block device.
 ghost use Rattle.std.specs.Prelude.{◌≡◌, ◌++◌, ◌∷◌, ◌+◌, ◌<◌, ◌≤◌, ◌^◌, [], Some, IfSome, length, if◌then◌else◌};
 ghost use Rattle.vd_model.specs.RingTurns.{parts_count, table_len, part_wants, needed_descriptors};
-ghost use Rattle.blk_driver.specs.Asked.{asked_in, header_in, front_bytes, draft_of, wants_of, writable_len, IsAsked};
+ghost use Rattle.blk_driver.specs.Asked.{asked_in, header_in, front_bytes, draft_of, wants_of, written_len, IsAsked};
 ghost use Rattle.blk_driver.specs.Pended.{pending_for};
 
 use crate::features::{EVENT_IDX, INDIRECT_DESC, has_feature};
@@ -105,9 +105,9 @@ impl Draft {
     }
 
     /// How many bytes its device may write.
-    fn writable_len(&self) -> u64
+    fn written_len(&self) -> u64
         requires { IsAsked self.now.ask }
-        ensures { result ≡ writable_len (part_wants self.now.buffer (asked_in self.now.ask)) }
+        ensures { result ≡ written_len (part_wants self.now.buffer (asked_in self.now.ask)) }
     {
         match self.ask.want() {
             Some(want) => if want.dir.is_from_device() {
@@ -131,7 +131,7 @@ impl Draft {
             buffers: self.buffer_count(),
             first_map,
             end_map: first_map + self.map_count(),
-            writable: self.writable_len(),
+            writable: self.written_len(),
         }
     }
 
@@ -176,7 +176,13 @@ impl Draft {
     /// The range of the table of its parts.
     pub fn table_want(&self) -> Want
         requires { self.now.buffer + 1 < 2 ^ 64 }
-        ensures { result ≡ record { buffer = self.now.buffer + 1; offset = 0; len = table_len (asked_in self.now.ask); dir = Dir.To } }
+        ensures { result ≡ record {
+          buffer = self.now.buffer + 1;
+          offset = 0;
+          len = table_len
+              (asked_in self.now.ask);
+          dir = Dir.To;
+        } }
     {
         Want {
             buffer: self.buffer + 1,

@@ -51,7 +51,8 @@ pub trait Dma: Mem {
         ensures full { (x : Setting) (acts : List Act) → stands self.old x acts → result ≡ Err NoSpace →
             placed_mappings x (taken_slots acts) (maps acts) wants.now ≡ None }
         ensures empty { result ≡ Err Empty → list_any (λ w. w.len == 0) wants.now ≡ true }
-        ensures stays { (x : Setting) (acts : List Act) → stands self.old x acts → OnErr result (stands self.new x acts) }
+        ensures stays { (x : Setting) (acts : List Act) → stands self.old x acts →
+            OnErr result (stands self.new x acts) }
         ensures memory { IsUnchanged Self.told Self.span keeps_rest self.old self.new };
 
     /// The address of a live mapping.
@@ -66,7 +67,8 @@ pub trait Dma: Mem {
 
     /// Ends a mapping, which brings the device's bytes back where it comes from there. A number that isn't live ends none.
     fn unmap(&mut self, number: u64)
-        ensures unmapped { (x : Setting) (acts : List Act) → stands self.old x acts → stands self.new x (unmap_act (live_mappings acts) number ++ acts) }
+        ensures unmapped { (x : Setting) (acts : List Act) → stands self.old x acts →
+            stands self.new x (unmap_act (live_mappings acts) number ++ acts) }
         ensures memory { IsUnchanged Self.told Self.span keeps_rest self.old self.new };
 
     ghost rest_refl: { (s : Self) → keeps_rest s s };

@@ -164,10 +164,13 @@ impl BlkDriver {
         requires some { 0 < length parts.now }
 
         ensures too_long { (result ≡ Err TooLong) ↔ (self.old.ring.place.size < length parts.now) }
-        ensures full { (result ≡ Err Full) ↔ ((length parts.now ≤ self.old.ring.place.size) × (length (free_descriptors self.old.ring) < length parts.now)) }
+        ensures full { (result ≡ Err Full) ↔ ((length parts.now ≤ self.old.ring.place.size)
+            × (length (free_descriptors self.old.ring) < length parts.now)) }
         ensures head { IfOk result (λ head. head ≡ next_head self.old.ring (length parts.now)) }
-        ensures state { OnOk result (self.new ≡ record self.old { ring = with_chain self.old.ring (length parts.now) }) }
-        ensures written { OnOk result (Becomes M.told mem.old mem.new (λ m. with_parts m self.old.ring parts.now)) }
+        ensures state { OnOk result (self.new
+            ≡ record self.old { ring = with_chain self.old.ring (length parts.now) }) }
+        ensures written { OnOk result (Becomes M.told mem.old mem.new
+            (λ m. with_parts m self.old.ring parts.now)) }
 
         // A refusal changes nothing.
         ensures err { OnErr result (self.new ≡ self.old) }
@@ -185,7 +188,8 @@ impl BlkDriver {
         requires { RingInReach (M.told mem.old) (M.span mem.old) self.old.ring.place }
 
         ensures idx { result.idx ≡ self.old.ring.added }
-        ensures kick { ForSome (M.told mem.new) (λ m. result.kick ≡ is_kick_needed m self.old.ring event_idx) }
+        ensures kick { ForSome (M.told mem.new)
+            (λ m. result.kick ≡ is_kick_needed m self.old.ring event_idx) }
         ensures state { self.new ≡ record self.old { ring = all_published self.old.ring } }
         ensures written { Becomes M.told mem.old mem.new (λ m. with_index m self.old.ring) }
 
@@ -212,10 +216,14 @@ impl BlkDriver {
         requires asked { IsAsked ask }
         requires buffers { buffers + 1 < 2 ^ 64 }
 
-        ensures full { (result ≡ Err SubmitError.Full) ↔ (length (free_descriptors self.old.ring) < needed_descriptors (has_feature features 28) (asked_in ask)) }
+        ensures full { (result ≡ Err SubmitError.Full) ↔
+            (length (free_descriptors self.old.ring) < needed_descriptors (has_feature features 28)
+            (asked_in ask)) }
         ensures no_space { result ≡ Err SubmitError.NoSpace → (x : Setting) (acts : List Act) → P.stands port.old x acts → has_range acts buffers 0 17 ≡ true →
             placed_mappings x (taken_slots acts) (maps acts) (wants_of (draft_of ask buffers features)) ≡ None }
-        ensures submitted { IfOk result (λ r. Submits P.told P.span P.keeps P.keeps_rest P.stands port.old (draft_of ask buffers features) tag self.old self.new r port.new) }
+        ensures submitted { IfOk result
+            (λ r. Submits P.told P.span P.keeps P.keeps_rest P.stands port.old
+            (draft_of ask buffers features) tag self.old self.new r port.new) }
 
         // A refusal leaves the queue as it was, and of the port all but the bytes of the buffer.
         ensures err { OnErr result (self.new ≡ self.old) }
@@ -262,11 +270,14 @@ impl BlkDriver {
     pub fn poll<P: Dma>(&mut self, port: &mut P, features: u64) -> Result<Option<Polled>, UsedError>
         requires { RingInReach (P.told port.old) (P.span port.old) self.old.ring.place }
 
-        ensures ring { ForSome (P.told port.old) (λ m. completion_in result ≡ next_completion m self.old.ring) }
+        ensures ring { ForSome (P.told port.old)
+            (λ m. completion_in result ≡ next_completion m self.old.ring) }
         ensures waiting { IfOk result (λ found. IfSome found (λ p. is_waiting self.old.ring p.head ≡ true)) }
-        ensures request { IfOk result (λ found. IfSome found (λ p. IsOutcome (pending_of self.old p.head) p)) }
+        ensures request { IfOk result
+            (λ found. IfSome found (λ p. IsOutcome (pending_of self.old p.head) p)) }
         ensures state { self.new ≡ driver_after self.old result }
-        ensures written { Becomes P.told port.old port.new (λ m. with_answer m self.old.ring (has_feature features 29) (completion_in result)) }
+        ensures written { Becomes P.told port.old port.new
+            (λ m. with_answer m self.old.ring (has_feature features 29) (completion_in result)) }
         ensures ends { Ends P.told P.keeps P.stands port.old port.new (maps_of self.old result) }
 
         // The ring is in reach still, and so is all that was.

@@ -138,11 +138,13 @@ fn publish_parts<P: Dma>(
 pub fn place<P: Dma>(port: &mut P, ring: &mut DriverRing, draft: &Draft, first: u64) -> Placed
     requires in_reach { RingInReach (P.told port.old) (P.span port.old) ring.old.place }
     requires asked { IsAsked draft.now.ask }
-    requires enough { needed_descriptors draft.now.indirect (asked_in draft.now.ask) ≤ length (free_descriptors ring.old) }
+    requires enough { needed_descriptors draft.now.indirect (asked_in draft.now.ask) ≤ length
+        (free_descriptors ring.old) }
     requires size { length (free_descriptors ring.old) ≤ ring.old.place.size }
     requires buffer { draft.now.buffer + 1 < 2 ^ 64 }
     requires room { first + length (wants_of draft.now) < 2 ^ 64 }
-    ensures placed { IsPlaced P.told P.span P.keeps P.keeps_rest P.stands port.old draft.now first ring.old ring.new result port.new }
+    ensures placed { IsPlaced P.told P.span P.keeps P.keeps_rest P.stands port.old draft.now first
+        ring.old ring.new result port.new }
     ensures in_reach { RingInReach (P.told port.new) (P.span port.new) ring.new.place }
     ensures memory { KeepsReach P.told P.span P.keeps_rest port.old port.new }
 {

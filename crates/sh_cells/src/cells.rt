@@ -72,7 +72,8 @@ impl Cells {
         requires inside { base + length bytes.now ≤ 4096 * pages_of self.now }
 
         ensures of { IsOf self.now (P.token pass.new) }
-        ensures gained { view (P.token pass.new) ≡ with_entry (view (P.token pass.old)) (entry result kind base bytes.now) }
+        ensures gained { view (P.token pass.new)
+            ≡ with_entry (view (P.token pass.old)) (entry result kind base bytes.now) }
         ensures stamp { (1 ≤ result) × (result ≤ 2 ^ 47) }
         ensures fresh { StampsBelow result (view (P.token pass.old)) }
     {
@@ -99,8 +100,12 @@ impl Cells {
         requires inside { at < 4096 * pages_of self.now }
 
         ensures of { IsOf self.now (P.token pass.new) }
-        ensures word { IfOk result (λ word. LoadsWord (view (P.token pass.old)) at word (view (P.token pass.new))) }
-        ensures bus { IfErr result (λ bus. (bus.at ≡ at) × (view (P.token pass.new) ≡ with_page_read (view (P.token pass.old)) (at / 4096) None)) }
+        ensures word { IfOk result
+            (λ word. LoadsWord (view (P.token pass.old)) at word (view (P.token pass.new))) }
+        ensures bus { IfErr result
+            (λ bus. (bus.at ≡ at)
+            × (view (P.token pass.new)
+            ≡ with_page_read (view (P.token pass.old)) (at / 4096) None)) }
     {
         let token = pass.token_mut();
         match self.find_page(token, at / SLOT_SIZE) {
@@ -116,8 +121,10 @@ impl Cells {
         requires inside { at < 4096 * pages_of self.now }
 
         ensures of { IsOf self.now (P.token pass.new) }
-        ensures gained { view (P.token pass.new) ≡ with_read (view (P.token pass.old)) (access side at result) }
-        ensures own { (w : Word) → Contains (view (P.token pass.old)).puts (access side at w) → result ≢ zero_word }
+        ensures gained { view (P.token pass.new)
+            ≡ with_read (view (P.token pass.old)) (access side at result) }
+        ensures own { (w : Word) → Contains (view (P.token pass.old)).puts (access side at w) →
+            result ≢ zero_word }
     {
         self.read_cell(pass.token_mut(), side, at)
     }

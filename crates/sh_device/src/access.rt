@@ -16,7 +16,9 @@ use vd_num::{Bus, SLOT_SIZE};
 
 /// The first page that was absent.
 fn first_absent(found: &[Option<Side>]) -> Option<usize>
-    ensures some { IfSome result (λ k. (k < length found.now) × (slice_index_or found.now k None ≡ None) × ((i : ℕ) → i < k → IsSome (slice_index_or found.now i None))) }
+    ensures some { IfSome result
+        (λ k. (k < length found.now) × (slice_index_or found.now k None ≡ None)
+        × ((i : ℕ) → i < k → IsSome (slice_index_or found.now i None))) }
     ensures none { IfNone result (All IsSome found.now) }
 {
     let mut k = 0;
@@ -40,8 +42,11 @@ impl<N: Naming> Device<N> {
 
         ensures of { IsOf self.now (P.token pass.new) }
         ensures goes { GoesOn (view (P.token pass.old)) (view (P.token pass.new)) }
-        ensures loads { IfOk result (λ least. Loads (view (P.token pass.old)) at out.new least (view (P.token pass.new))) }
-        ensures bus { IfErr result (λ bus. Misses (4096 * pages_of self.now) (view (P.token pass.old)) at (length out.old) bus.at (view (P.token pass.new))) }
+        ensures loads { IfOk result
+            (λ least. Loads (view (P.token pass.old)) at out.new least (view (P.token pass.new))) }
+        ensures bus { IfErr result
+            (λ bus. Misses (4096 * pages_of self.now) (view (P.token pass.old)) at (length out.old)
+            bus.at (view (P.token pass.new))) }
         ensures same { OnErr result (out.new ≡ out.old) }
     {
         // A range of at most a page meets two pages.
@@ -65,7 +70,9 @@ impl<N: Naming> Device<N> {
         ensures of { IsOf self.now pass.new }
         ensures goes { GoesOn (view pass.old) (view pass.new) }
         ensures stores { IfOk result (λ stamp. Stores (view pass.old) at bytes.now stamp (view pass.new)) }
-        ensures bus { IfErr result (λ bus. Misses (4096 * pages_of self.now) (view pass.old) at (length bytes.now) bus.at (view pass.new)) }
+        ensures bus { IfErr result
+            (λ bus. Misses (4096 * pages_of self.now) (view pass.old) at (length bytes.now) bus.at
+            (view pass.new)) }
     {
         if bytes.len() <= 4096 {
             let mut found = [None; 2];
@@ -101,7 +108,9 @@ impl<N: Naming> Device<N> {
 
         ensures of { IsOf self.now pass.new }
         ensures goes { GoesOn (view pass.old) (view pass.new) }
-        ensures gained { view pass.new ≡ with_bytes (view pass.old) result (kind.Handed held.now.number) [] (held.now.iova + offset) bytes.now }
+        ensures gained { view pass.new
+            ≡ with_bytes (view pass.old) result (kind.Handed held.now.number) []
+            (held.now.iova + offset) bytes.now }
     {
         let kind = Kind::Handed {
             mapping: held.number,
@@ -124,8 +133,11 @@ impl<N: Naming> Device<N> {
 
         ensures of { IsOf self.now (P.token pass.new) }
         ensures goes { GoesOn (view (P.token pass.old)) (view (P.token pass.new)) }
-        ensures loads { IfOk result (λ least. Loads (view (P.token pass.old)) at out.new least (view (P.token pass.new))) }
-        ensures bus { IfErr result (λ bus. Misses (4096 * pages_of self.now) (view (P.token pass.old)) at (length out.old) bus.at (view (P.token pass.new))) }
+        ensures loads { IfOk result
+            (λ least. Loads (view (P.token pass.old)) at out.new least (view (P.token pass.new))) }
+        ensures bus { IfErr result
+            (λ bus. Misses (4096 * pages_of self.now) (view (P.token pass.old)) at (length out.old)
+            bus.at (view (P.token pass.new))) }
         ensures same { OnErr result (out.new ≡ out.old) }
     {
         let count = self.find_range(pass, at, out.len() as u64, found)?;
@@ -149,7 +161,9 @@ impl<N: Naming> Device<N> {
         ensures of { IsOf self.now pass.new }
         ensures goes { GoesOn (view pass.old) (view pass.new) }
         ensures stores { IfOk result (λ stamp. Stores (view pass.old) at bytes.now stamp (view pass.new)) }
-        ensures bus { IfErr result (λ bus. Misses (4096 * pages_of self.now) (view pass.old) at (length bytes.now) bus.at (view pass.new)) }
+        ensures bus { IfErr result
+            (λ bus. Misses (4096 * pages_of self.now) (view pass.old) at (length bytes.now) bus.at
+            (view pass.new)) }
     {
         let count = self.find_range(pass, at, bytes.len() as u64, found)?;
         let found = &found[..count];
@@ -170,11 +184,16 @@ impl<N: Naming> Device<N> {
         requires table { min 16777216 (len + 4096) ≤ 4096 * length found.old }
 
         ensures of { IsOf self.now (P.token pass.new) }
-        ensures inside { IfOk result (λ count. (at + len ≤ 4096 * pages_of self.now) × (count ≤ length found.new)) }
+        ensures inside { IfOk result
+            (λ count. (at + len ≤ 4096 * pages_of self.now) × (count ≤ length found.new)) }
         ensures covers { IfOk result (λ count. at + len ≤ 4096 * (at / 4096 + count)) }
-        ensures found { IfOk result (λ count. view (P.token pass.new) ≡ with_found (view (P.token pass.old)) (at / 4096) (take count found.new)) }
+        ensures found { IfOk result
+            (λ count. view (P.token pass.new)
+            ≡ with_found (view (P.token pass.old)) (at / 4096) (take count found.new)) }
         ensures present { IfOk result (λ count. All IsSome (take count found.new)) }
-        ensures bus { IfErr result (λ bus. Misses (4096 * pages_of self.now) (view (P.token pass.old)) at len bus.at (view (P.token pass.new))) }
+        ensures bus { IfErr result
+            (λ bus. Misses (4096 * pages_of self.now) (view (P.token pass.old)) at len bus.at
+            (view (P.token pass.new))) }
     {
         if at >= self.size {
             return Err(Bus { at });

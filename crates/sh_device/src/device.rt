@@ -102,7 +102,8 @@ impl NewDevice {
     /// The device with its name, whose tables and numbers are its own. Its two states, as they are,
     /// lie under their locks.
     pub fn named<N: Naming>(self) -> Device<N>
-        requires domain { (self.domain.table ≡ N.domain) × (self.domain.bounce ≡ N.numbers.bounce) × (self.domain.pages ≡ N.numbers.pages) }
+        requires domain { (self.domain.table ≡ N.domain) × (self.domain.bounce ≡ N.numbers.bounce)
+            × (self.domain.pages ≡ N.numbers.pages) }
         requires messages { (self.messages.table ≡ N.messages) × (self.messages.timeout ≡ N.numbers.timeout) }
         ensures cells { result ≡ self.cells }
         ensures pages { pages_of result ≡ N.numbers.pages }

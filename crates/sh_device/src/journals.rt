@@ -38,7 +38,9 @@ pub(crate) fn deregister_step<N: Naming>(
 ) -> Result<Noted<DomainAnswer, N>, AllocError>
     requires { (count ≤ length sides.old) × (count ≤ 4096) }
     ensures noted { IfOk result (λ n. IsDomainNote N.numbers n.note step.Deregister n.value) }
-    ensures sides { IfOk result (λ n. (page : ℕ) → page < count → slice_index_or sides.new page None ≡ side_after N.numbers n.note.entries page) }
+    ensures sides { IfOk result
+        (λ n. (page : ℕ) → page < count →
+        slice_index_or sides.new page None ≡ side_after N.numbers n.note.entries page) }
 {
     // One lock for the entry and for what is asked.
     let mut guard = domain.state.lock(rt);
@@ -53,7 +55,8 @@ pub(crate) fn deregister_step<N: Naming>(
 /// has it.
 fn sides_in_use<N: Naming>(state: &DomainState<N>, count: u64, sides: &mut [Option<Side>])
     requires { (count ≤ length sides.old) × (count ≤ 4096) }
-    ensures { (page : ℕ) → page < count → slice_index_or sides.new page None ≡ side_after N.numbers state.now.entries page }
+    ensures { (page : ℕ) → page < count →
+        slice_index_or sides.new page None ≡ side_after N.numbers state.now.entries page }
 {
     let mut page = 0;
     while page < count {

@@ -54,8 +54,11 @@ impl<N: Naming> Device<N> {
         ensures of { IsOf self.now pass.new }
         ensures goes { GoesOn (view pass.old) (view pass.new) }
         ensures held { IfOk result (λ h. (h.len ≡ length buffer.now) × (h.dir ≡ dir) × (h.coherent ≡ false)) }
-        ensures hands { IfOk result (λ h. Hands (view pass.old) h.number h.iova (pages_for h.len) (handed dir buffer.now) h.stamp (view pass.new)) }
-        ensures refused { IfErr result (IsRefusal N.numbers (step.Map (length buffer.now) dir) (length buffer.now)) }
+        ensures hands { IfOk result
+            (λ h. Hands (view pass.old) h.number h.iova (pages_for h.len) (handed dir buffer.now)
+            h.stamp (view pass.new)) }
+        ensures refused { IfErr result (IsRefusal N.numbers (step.Map (length buffer.now) dir)
+            (length buffer.now)) }
         ensures some { OnOk result (1 ≤ length buffer.now) }
         ensures same { OnErr result (view pass.new ≡ view pass.old) }
     {
@@ -103,9 +106,11 @@ impl<N: Naming> Device<N> {
 
         ensures of { IsOf self.now pass.new }
         ensures goes { GoesOn (view pass.old) (view pass.new) }
-        ensures noted { IfOk result (λ n. (a : DomainAnswer) × IsDomainNote N.numbers n (step.Unmap held.number) a) }
+        ensures noted { IfOk result
+            (λ n. (a : DomainAnswer) × IsDomainNote N.numbers n (step.Unmap held.number) a) }
         ensures to { held.dir ≡ dir.To → (buffer.new ≡ buffer.old) × (view pass.new ≡ view pass.old) }
-        ensures brings { held.dir ≢ dir.To → OnOk result (Brings (view pass.old) held.iova buffer.new (view pass.new)) }
+        ensures brings { held.dir ≢ dir.To →
+            OnOk result (Brings (view pass.old) held.iova buffer.new (view pass.new)) }
         ensures refused { IfErr result (λ e. (e.held ≡ held) × (buffer.new ≡ buffer.old)) }
     {
         let _switch = self.domain.switch.read(rt);
@@ -146,7 +151,8 @@ impl<N: Naming> Device<N> {
         ensures of { IsOf self.now pass.new }
         ensures goes { GoesOn (view pass.old) (view pass.new) }
         ensures held { IfOk result (λ h. (h.len ≡ len) × (h.dir ≡ dir.Both) × (h.coherent ≡ true)) }
-        ensures makes { IfOk result (λ h. Makes (view pass.old) (h.iova / 4096) (pages_for len) (view pass.new)) }
+        ensures makes { IfOk result
+            (λ h. Makes (view pass.old) (h.iova / 4096) (pages_for len) (view pass.new)) }
         ensures refused { IfErr result (IsRefusal N.numbers (step.Coherent len) len) }
         ensures some { OnOk result (1 ≤ len) }
         ensures same { OnErr result (view pass.new ≡ view pass.old) }
@@ -186,8 +192,10 @@ impl<N: Naming> Device<N> {
 
         ensures of { IsOf self.now pass.new }
         ensures goes { GoesOn (view pass.old) (view pass.new) }
-        ensures noted { IfOk result (λ n. (a : DomainAnswer) × IsDomainNote N.numbers n (step.FreeCoherent held.number) a) }
-        ensures hides { OnOk result (view pass.new ≡ with_hidden (view pass.old) (held.iova / 4096) (pages_for held.len)) }
+        ensures noted { IfOk result
+            (λ n. (a : DomainAnswer) × IsDomainNote N.numbers n (step.FreeCoherent held.number) a) }
+        ensures hides { OnOk result (view pass.new
+            ≡ with_hidden (view pass.old) (held.iova / 4096) (pages_for held.len)) }
         ensures refused { IfErr result (λ e. e.held ≡ held) }
         ensures same { OnErr result (view pass.new ≡ view pass.old) }
     {
@@ -210,7 +218,8 @@ impl<N: Naming> Device<N> {
         rt: &impl Wait,
         range: Range,
     ) -> Result<Noted<Result<Region, Errno>, N>, AllocError>
-        ensures { IfOk result (λ n. IsDomainNote N.numbers n.note (step.Lookup range) (found_answer n.value)) }
+        ensures { IfOk result (λ n. IsDomainNote N.numbers n.note (step.Lookup range)
+            (found_answer n.value)) }
     {
         let Noted { value, note } = domain_step(rt, &self.domain, DomainStep::Lookup { range })?;
         let value = match value {
@@ -314,7 +323,8 @@ fn bring(
 fn bring_all(cells: &Cells, pass: &mut DriverPass, iova: u64, out: &mut [u8])
     requires of { IsOf cells.now pass.old }
     requires even { (iova % 4096 ≡ 0) × (length out.old % 2 ≡ 0) }
-    requires inside { (iova + 4096 * pages_for (length out.old) ≤ 4096 * pages_of cells.now) × (pages_of cells.now ≤ 4096) }
+    requires inside { (iova + 4096 * pages_for (length out.old) ≤ 4096 * pages_of cells.now)
+        × (pages_of cells.now ≤ 4096) }
 
     ensures of { IsOf cells.now pass.new }
     ensures brings { Brings (view pass.old) iova out.new (view pass.new) }
@@ -338,7 +348,8 @@ fn brought(
 ) -> Result<Vec<u8>, AllocError>
     requires of { IsOf cells.now pass.old }
     requires even { (iova % 4096 ≡ 0) × (len % 2 ≡ 0) }
-    requires inside { (iova + 4096 * pages_for len ≤ 4096 * pages_of cells.now) × (pages_of cells.now ≤ 4096) }
+    requires inside { (iova + 4096 * pages_for len ≤ 4096 * pages_of cells.now)
+        × (pages_of cells.now ≤ 4096) }
 
     ensures of { IsOf cells.now pass.new }
     ensures brings { IfOk result (λ v. Brings (view pass.old) iova v.items (view pass.new)) }

@@ -73,7 +73,8 @@ impl<N: Naming> Device<N> {
         code: u32,
         avail: u16,
     ) -> Result<Noted<bool, N>, AllocError>
-        ensures { IfOk result (λ n. IsMessageNote N.numbers n.note (asks.Answer id code avail) (tells.Answered n.value)) }
+        ensures { IfOk result (λ n. IsMessageNote N.numbers n.note (asks.Answer id code avail)
+            (tells.Answered n.value)) }
     {
         let step = MessageStep::Answer {
             id,

@@ -33,7 +33,9 @@ impl<N: Naming> Device<N> {
         ensures of { IsOf self.now pass.new }
         ensures goes { GoesOn (view pass.old) (view pass.new) }
         ensures noted { IfOk result (λ n. IsDomainNote N.numbers n.note step.Register (done_answer n.value)) }
-        ensures switches { IfOk result (λ n. OnOk n.value (Switches (view pass.old) 0 (replicate N.numbers.bounce (Some side.Second)) (view pass.new))) }
+        ensures switches { IfOk result
+            (λ n. OnOk n.value (Switches (view pass.old) 0
+            (replicate N.numbers.bounce (Some side.Second)) (view pass.new))) }
         ensures refused { IfOk result (λ n. OnErr n.value (view pass.new ≡ view pass.old)) }
         ensures same { OnErr result (view pass.new ≡ view pass.old) }
     {
@@ -61,8 +63,11 @@ impl<N: Naming> Device<N> {
 
         ensures of { IsOf self.now pass.new }
         ensures goes { GoesOn (view pass.old) (view pass.new) }
-        ensures noted { IfOk result (λ n. IsDomainNote N.numbers n.note step.Deregister (done_answer n.value)) }
-        ensures switches { IfOk result (λ n. OnOk n.value (Deregisters N.numbers n.note.entries (view pass.old) (view pass.new))) }
+        ensures noted { IfOk result
+            (λ n. IsDomainNote N.numbers n.note step.Deregister (done_answer n.value)) }
+        ensures switches { IfOk result
+            (λ n. OnOk n.value (Deregisters N.numbers n.note.entries (view pass.old)
+            (view pass.new))) }
         ensures refused { IfOk result (λ n. OnErr n.value (view pass.new ≡ view pass.old)) }
         ensures same { OnErr result (view pass.new ≡ view pass.old) }
     {
@@ -159,7 +164,8 @@ fn copy_page(cells: &Cells, pass: &mut DriverPass, page: u64, from: Side, to: Si
     requires inside { page < pages_of cells.now }
 
     ensures of { IsOf cells.now pass.new }
-    ensures copies { (stamp : ℕ) × (words : List Word) × (length words ≡ 2048) × (view pass.new ≡ with_copies (view pass.old) stamp from to page words) }
+    ensures copies { (stamp : ℕ) × (words : List Word) × (length words ≡ 2048)
+        × (view pass.new ≡ with_copies (view pass.old) stamp from to page words) }
 {
     let first = SLOT_SIZE * page;
     let stamp = cells.draw(pass, Kind::Zero, first, &ZEROS);

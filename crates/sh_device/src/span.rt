@@ -54,7 +54,10 @@ pub(crate) fn read_on<P: Pass>(
     requires even { (at % 2 ≡ 0) × (length out.old % 2 ≡ 0) }
     requires inside { at + length out.old ≤ 4096 * pages_of cells.now }
     ensures of { IsOf cells.now (P.token pass.new) }
-    ensures gained { (words : List Word) × (view (P.token pass.new) ≡ with_reads (view (P.token pass.old)) (accesses_on found.now (at / 4096) at words)) × (out.new ≡ bytes_of words) × (result ≡ least_of words) }
+    ensures gained { (words : List Word)
+        × (view (P.token pass.new)
+        ≡ with_reads (view (P.token pass.old)) (accesses_on found.now (at / 4096) at words))
+        × (out.new ≡ bytes_of words) × (result ≡ least_of words) }
 {
     let mut least = u64::MAX;
     let mut i = 0;
@@ -85,7 +88,8 @@ pub(crate) fn write_on<P: Pass>(
     requires even { (at % 2 ≡ 0) × (length bytes.now % 2 ≡ 0) }
     requires inside { at + length bytes.now ≤ 4096 * pages_of cells.now }
     ensures of { IsOf cells.now (P.token pass.new) }
-    ensures gained { view (P.token pass.new) ≡ with_bytes (view (P.token pass.old)) result kind found.now at bytes.now }
+    ensures gained { view (P.token pass.new)
+        ≡ with_bytes (view (P.token pass.old)) result kind found.now at bytes.now }
 {
     let stamp = cells.draw(pass, kind, at, bytes);
     let mut i = 0;

@@ -37,7 +37,8 @@ fn session<N: Naming + Send + Sync, R: Threads + Wait + Abort + Sync>(
     mut driver: DriverPass,
 ) -> Result<(), Fail>
     requires pass { IsOf new.cells driver × (view driver ≡ all_stamps) }
-    requires domain { (new.domain.table ≡ N.domain) × (new.domain.bounce ≡ N.numbers.bounce) × (new.domain.pages ≡ N.numbers.pages) }
+    requires domain { (new.domain.table ≡ N.domain) × (new.domain.bounce ≡ N.numbers.bounce)
+        × (new.domain.pages ≡ N.numbers.pages) }
     requires messages { (new.messages.table ≡ N.messages) × (new.messages.timeout ≡ N.numbers.timeout) }
     requires few { N.numbers.bounce ≤ 4096 }
 {
@@ -58,7 +59,8 @@ fn all_calls<N: Naming + Send + Sync, R: Threads + Wait + Abort + Sync>(
     requires of { IsOf device.now driver.old × IsOf device.now daemon.old }
     requires few { N.numbers.bounce ≤ 4096 }
     ensures of { IsOf device.now driver.new × IsOf device.now daemon.new }
-    ensures quota { ((view driver.new).quota ≡ (view driver.old).quota) × ((view daemon.new).quota ≡ (view daemon.old).quota) }
+    ensures quota { ((view driver.new).quota ≡ (view driver.old).quota)
+        × ((view daemon.new).quota ≡ (view daemon.old).quota) }
 {
     mapping_to_the_device(rt, device, driver, daemon)?;
     mapping_of_both(rt, device, driver, daemon)?;
@@ -116,7 +118,8 @@ fn mapping_to_the_device<N: Naming, R: Wait + Abort>(
 ) -> Result<(), Fail>
     requires of { IsOf device.now driver.old × IsOf device.now daemon.old }
     ensures of { IsOf device.now driver.new × IsOf device.now daemon.new }
-    ensures quota { ((view driver.new).quota ≡ (view driver.old).quota) × ((view daemon.new).quota ≡ (view daemon.old).quota) }
+    ensures quota { ((view driver.new).quota ≡ (view driver.old).quota)
+        × ((view daemon.new).quota ≡ (view daemon.old).quota) }
 {
     let mut buffer = *b"ab";
     let mut found = [0; 2];
@@ -143,7 +146,8 @@ fn mapping_of_both<N: Naming, R: Wait + Abort>(
 ) -> Result<(), Fail>
     requires of { IsOf device.now driver.old × IsOf device.now daemon.old }
     ensures of { IsOf device.now driver.new × IsOf device.now daemon.new }
-    ensures quota { ((view driver.new).quota ≡ (view driver.old).quota) × ((view daemon.new).quota ≡ (view daemon.old).quota) }
+    ensures quota { ((view driver.new).quota ≡ (view driver.old).quota)
+        × ((view daemon.new).quota ≡ (view daemon.old).quota) }
 {
     let mut buffer = [0, 0];
     let held = map_one(rt, device, driver, &buffer, Dir::Both)?;
@@ -298,7 +302,8 @@ fn rounds<N: Naming + Send + Sync, R: Threads + Wait + Abort + Sync>(
     driver: DriverPass,
 ) -> Result<(), Fail>
     requires pass { IsOf new.cells driver × (view driver ≡ all_stamps) }
-    requires domain { (new.domain.table ≡ N.domain) × (new.domain.bounce ≡ N.numbers.bounce) × (new.domain.pages ≡ N.numbers.pages) }
+    requires domain { (new.domain.table ≡ N.domain) × (new.domain.bounce ≡ N.numbers.bounce)
+        × (new.domain.pages ≡ N.numbers.pages) }
     requires messages { (new.messages.table ≡ N.messages) × (new.messages.timeout ≡ N.numbers.timeout) }
 {
     let (_closed, mapped, whole) = both_work(rt, new.named::<N>(), driver);

@@ -117,8 +117,14 @@ impl NewDomain {
 impl<N: Naming> DomainState<N> {
     /// Does a step and appends it with its answer. For want of memory nothing is done.
     pub fn apply(&mut self, step: DomainStep) -> Result<DomainAnswer, AllocError>
-        ensures answer { IfOk result (λ answer. answer ≡ (domain_turn N.numbers (domain_acts N.numbers (reverse self.old.entries)) step).answer) }
-        ensures entry { IfOk result (λ answer. self.new ≡ record self.old { entries = self.old.entries ++ entry.Domain step answer ∷ [] }) }
+        ensures answer { IfOk result
+            (λ answer. answer ≡ (domain_turn N.numbers
+            (domain_acts N.numbers (reverse self.old.entries)) step).answer) }
+        ensures entry { IfOk result
+            (λ answer. self.new ≡ record self.old {
+              entries = self.old.entries
+                  ++ entry.Domain step answer ∷ [];
+            }) }
         ensures unnoted { IfOk result (λ _. self.new.noted < length self.new.entries) }
         ensures err { OnErr result (self.new ≡ self.old) }
     {
@@ -148,7 +154,12 @@ impl<N: Naming> DomainState<N> {
     pub fn note(&mut self) -> Note<N>
         requires { self.old.noted < length self.old.entries }
         ensures noted { self.new ≡ record self.old { noted = length self.old.entries } }
-        ensures note { result ≡ record { kind = kind.Domain; entries = self.old.entries; place = length self.old.entries - 1 } }
+        ensures note { result ≡ record {
+          kind = kind.Domain;
+          entries = self.old.entries;
+          place =
+              length self.old.entries - 1;
+        } }
         ensures legal { IsLegal N.numbers kind.Domain self.old.entries }
     {
         self.journal.note()

@@ -146,7 +146,8 @@ fn append_draft<D: Draft>(
     requires of { (seat.old.table_id ≡ top.now.table_id) × (top.now.table_id.words ≡ 1) }
     requires keeps { seat.old.me.0.keeps ≡ true }
 
-    ensures { (seat.new.table_id ≡ seat.old.table_id) × (seat.new.me.0 ≡ with_entry seat.old.me.0 entry) × (seat.new.me.1 ≡ seat.old.me.1) }
+    ensures { (seat.new.table_id ≡ seat.old.table_id)
+        × (seat.new.me.0 ≡ with_entry seat.old.me.0 entry) × (seat.new.me.1 ≡ seat.old.me.1) }
 {
     // The entry lives in the view alone.
     let _ = entry;
@@ -173,7 +174,12 @@ impl<N: Naming> Journal<N> {
     pub(crate) fn append(&mut self, entry: Entry)
         requires room { 1 ≤ self.old.room }
         requires right { IsRight N.numbers self.old.kind (reverse self.old.entries) entry }
-        ensures entry { self.new ≡ record self.old { entries = self.old.entries ++ entry ∷ []; room = self.old.room - 1 } }
+        ensures entry { self.new
+            ≡ record self.old {
+              entries = self.old.entries
+                  ++ entry ∷ [];
+              room = self.old.room - 1;
+            } }
         ensures unnoted { self.new.noted < length self.new.entries }
     {
         self.entries.push_reserved(entry);
@@ -195,7 +201,12 @@ impl<N: Naming> Journal<N> {
     pub(crate) fn note(&mut self) -> Note<N>
         requires { self.old.noted < length self.old.entries }
         ensures noted { self.new ≡ record self.old { noted = length self.old.entries } }
-        ensures note { result ≡ record { kind = self.old.kind; entries = self.old.entries; place = length self.old.entries - 1 } }
+        ensures note { result ≡ record {
+          kind = self.old.kind;
+          entries = self.old.entries;
+          place =
+              length self.old.entries - 1;
+        } }
     {
         let place = self.entries.len() as u64 - 1;
         let table = &self.table;

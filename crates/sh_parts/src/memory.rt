@@ -46,7 +46,13 @@ pub(crate) struct Memory {
 /// Some pages as a daemon sees them: it may read and write them.
 fn region_of(page: u64, count: u64) -> Region
     requires { (1 ≤ count) × (page + count ≤ 4096) }
-    ensures { result ≡ record { start = 4096 * page; last = 4096 * (page + count) - 1; offset = 4096 * page; perm = read_write } }
+    ensures { result ≡ record {
+      start = 4096 * page;
+      last = 4096 * (page + count) - 1;
+      offset = 4096
+          * page;
+      perm = read_write;
+    } }
 {
     let start = SLOT_SIZE * page;
     Region {
@@ -84,7 +90,9 @@ impl Memory {
     pub(crate) fn new(alloc: Global, bounce_pages: u32, pages: u32) -> Result<Memory, AllocError>
         requires { (2 ≤ bounce_pages) × (bounce_pages < pages) × (pages ≤ 4096) }
         ensures sound { IfOk result IsSound }
-        ensures stands { IfOk result (λ m. (t : ℕ) → Stands (record { bounce = bounce_pages; pages = pages; timeout = t }) [] m) }
+        ensures stands { IfOk result
+            (λ m. (t : ℕ) → Stands (record { bounce = bounce_pages; pages = pages; timeout = t }) []
+            m) }
         ensures next { IfOk result (λ m. m.next ≡ 0) }
     {
         let bounce_pages = u64::from(bounce_pages);
@@ -107,8 +115,10 @@ impl Memory {
         requires number { self.old.next + 1 < 2 ^ 64 }
         ensures sound { IsSound self.new }
         ensures next { self.new.next ≤ self.old.next + 1 }
-        ensures makes { (x : Numbers) (done : List Act) → Stands x done self.old → IfOk result (λ answer. Makes x done step answer self.new) }
-        ensures err { (x : Numbers) (done : List Act) → Stands x done self.old → OnErr result (Stands x done self.new) }
+        ensures makes { (x : Numbers) (done : List Act) → Stands x done self.old →
+            IfOk result (λ answer. Makes x done step answer self.new) }
+        ensures err { (x : Numbers) (done : List Act) → Stands x done self.old →
+            OnErr result (Stands x done self.new) }
     {
         Ok(match step {
             DomainStep::Map { len, dir: _ } => self.map(len)?,
@@ -126,8 +136,10 @@ impl Memory {
         requires number { self.old.next + 1 < 2 ^ 64 }
         ensures sound { IsSound self.new }
         ensures next { self.new.next ≤ self.old.next + 1 }
-        ensures makes { (x : Numbers) (done : List Act) (dir : Dir) → Stands x done self.old → IfOk result (λ answer. Makes x done (asks.Map len dir) answer self.new) }
-        ensures err { (x : Numbers) (done : List Act) → Stands x done self.old → OnErr result (Stands x done self.new) }
+        ensures makes { (x : Numbers) (done : List Act) (dir : Dir) → Stands x done self.old →
+            IfOk result (λ answer. Makes x done (asks.Map len dir) answer self.new) }
+        ensures err { (x : Numbers) (done : List Act) → Stands x done self.old →
+            OnErr result (Stands x done self.new) }
     {
         if len == 0 {
             return Ok(DomainAnswer::Err(Errno::Inval));
@@ -155,7 +167,8 @@ impl Memory {
         requires sound { IsSound self.old }
         ensures sound { IsSound self.new }
         ensures next { self.new.next ≡ self.old.next }
-        ensures makes { (x : Numbers) (done : List Act) → Stands x done self.old → Makes x done (asks.Unmap number) result self.new }
+        ensures makes { (x : Numbers) (done : List Act) → Stands x done self.old →
+            Makes x done (asks.Unmap number) result self.new }
     {
         let Some(live) = find_live(&self.mappings, number) else {
             return DomainAnswer::Err(Errno::Noent);
@@ -170,8 +183,10 @@ impl Memory {
         requires number { self.old.next + 1 < 2 ^ 64 }
         ensures sound { IsSound self.new }
         ensures next { self.new.next ≤ self.old.next + 1 }
-        ensures makes { (x : Numbers) (done : List Act) → Stands x done self.old → IfOk result (λ answer. Makes x done (asks.Coherent len) answer self.new) }
-        ensures err { (x : Numbers) (done : List Act) → Stands x done self.old → OnErr result (Stands x done self.new) }
+        ensures makes { (x : Numbers) (done : List Act) → Stands x done self.old →
+            IfOk result (λ answer. Makes x done (asks.Coherent len) answer self.new) }
+        ensures err { (x : Numbers) (done : List Act) → Stands x done self.old →
+            OnErr result (Stands x done self.new) }
     {
         if len == 0 {
             return Ok(DomainAnswer::Err(Errno::Inval));
@@ -203,7 +218,8 @@ impl Memory {
         requires sound { IsSound self.old }
         ensures sound { IsSound self.new }
         ensures next { self.new.next ≡ self.old.next }
-        ensures makes { (x : Numbers) (done : List Act) → Stands x done self.old → Makes x done (asks.FreeCoherent number) result self.new }
+        ensures makes { (x : Numbers) (done : List Act) → Stands x done self.old →
+            Makes x done (asks.FreeCoherent number) result self.new }
     {
         let Some(live) = find_live(&self.areas, number) else {
             return DomainAnswer::Err(Errno::Noent);
@@ -216,7 +232,8 @@ impl Memory {
 
     fn lookup(&self, range: Range) -> DomainAnswer
         requires sound { IsSound self.now }
-        ensures { (x : Numbers) (done : List Act) → Stands x done self.now → result ≡ (domain_turn x done (asks.Lookup range)).answer }
+        ensures { (x : Numbers) (done : List Act) → Stands x done self.now →
+            result ≡ (domain_turn x done (asks.Lookup range)).answer }
     {
         if range.start > range.last {
             return DomainAnswer::Err(Errno::Inval);
@@ -235,7 +252,8 @@ impl Memory {
         requires sound { IsSound self.old }
         ensures sound { IsSound self.new }
         ensures next { self.new.next ≡ self.old.next }
-        ensures makes { (x : Numbers) (done : List Act) → Stands x done self.old → Makes x done asks.Register result self.new }
+        ensures makes { (x : Numbers) (done : List Act) → Stands x done self.old →
+            Makes x done asks.Register result self.new }
     {
         if self.registered {
             return DomainAnswer::Err(Errno::Exist);
@@ -248,7 +266,8 @@ impl Memory {
         requires sound { IsSound self.old }
         ensures sound { IsSound self.new }
         ensures next { self.new.next ≡ self.old.next }
-        ensures makes { (x : Numbers) (done : List Act) → Stands x done self.old → Makes x done asks.Deregister result self.new }
+        ensures makes { (x : Numbers) (done : List Act) → Stands x done self.old →
+            Makes x done asks.Deregister result self.new }
     {
         if !self.registered {
             return DomainAnswer::Err(Errno::Noent);

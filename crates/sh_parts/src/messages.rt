@@ -126,8 +126,14 @@ impl<N: Naming> MessageState<N> {
         requires small { now ≤ 2 ^ 40 }
         requires moment { IsMoment (reverse self.old.entries) step now }
 
-        ensures answer { IfOk result (λ answer. answer ≡ message_answer (message_start N.numbers) (acts_of_entries N.numbers (reverse self.old.entries)) step) }
-        ensures entry { IfOk result (λ answer. self.new ≡ record self.old { entries = self.old.entries ++ entry.Message step now answer ∷ [] }) }
+        ensures answer { IfOk result
+            (λ answer. answer ≡ message_answer (message_start N.numbers)
+            (acts_of_entries N.numbers (reverse self.old.entries)) step) }
+        ensures entry { IfOk result
+            (λ answer. self.new ≡ record self.old {
+              entries = self.old.entries
+                  ++ entry.Message step now answer ∷ [];
+            }) }
         ensures unnoted { IfOk result (λ _. self.new.noted < length self.new.entries) }
         ensures err { OnErr result (self.new ≡ self.old) }
     {
@@ -165,7 +171,12 @@ impl<N: Naming> MessageState<N> {
     pub fn note(&mut self) -> Note<N>
         requires { self.old.noted < length self.old.entries }
         ensures noted { self.new ≡ record self.old { noted = length self.old.entries } }
-        ensures note { result ≡ record { kind = kind.Messages; entries = self.old.entries; place = length self.old.entries - 1 } }
+        ensures note { result ≡ record {
+          kind = kind.Messages;
+          entries = self.old.entries;
+          place =
+              length self.old.entries - 1;
+        } }
         ensures legal { IsLegal N.numbers kind.Messages self.old.entries }
     {
         self.journal.note()

@@ -48,22 +48,22 @@ request_at start driver place = request_by (plan_from (state_at start driver pla
 -- WHAT IT LEAVES
 
 -- how many bytes the device writes: a read's, and the status
-abbrev pub writable_of : WorkRequest → ℕ
-writable_of r = if r.kind == 0 then 512 * r.sectors + 1 else 1
+abbrev pub answer_len : WorkRequest → ℕ
+answer_len r = if r.kind == 0 then 512 * r.sectors + 1 else 1
 
-abbrev pub block_of : WorkRequest → Block
-block_of r = record { kind = r.kind; sector = r.sector; payload = r.bytes; writable = writable_of r }
+abbrev pub asked_block : WorkRequest → Block
+asked_block r = record { kind = r.kind; sector = r.sector; payload = r.bytes; writable = answer_len r }
 
 -- what the device of a run offers: bits 9, 29, 32 and 33
 abbrev pub offered : ℕ
 offered = 13421773312
 
 -- a driver's part of the image, as a disk of its own
-abbrev pub disk_of : List ℕ → Disk
-disk_of part = record { sectors = 128; byte = λ i. slice_index part i; features = offered; name = [] }
+abbrev pub part_disk : List ℕ → Disk
+part_disk part = record { sectors = 128; byte = λ i. slice_index part i; features = offered; name = [] }
 
 abbrev pub applied : WorkRequest → List ℕ → List ℕ
-applied r part = if (result_of (disk_of part) (block_of r) false).stores then with_sectors r.sector r.bytes part else part
+applied r part = if (result_of (part_disk part) (asked_block r) false).stores then with_sectors r.sector r.bytes part else part
 
 -- a driver's part after so many of its requests, which begins as zeros
 abbrev pub part_after : ℕ → ℕ → ℕ → List ℕ

@@ -25,7 +25,8 @@ impl ApiVersion {
     pub fn read(from: &[u8]) -> Option<ApiVersion>
         ensures formed { is_some result ≡ is_api_version from.now }
         ensures fields { IfSome result (λ v. ShowsEach from.now (api_version v)) }
-        ensures again { (v : ApiVersion) → FitsEach (api_version v) → from.now ≡ laid_out 8 (api_version v) → result ≡ Some v }
+        ensures again { (v : ApiVersion) → FitsEach (api_version v) →
+            from.now ≡ laid_out 8 (api_version v) → result ≡ Some v }
     {
         if from.len() != ApiVersion::LEN {
             return None;
@@ -62,7 +63,8 @@ impl DevName {
         ensures refused { is_dev_name from.now ≡ false → result ≡ Ok None }
         ensures fields { IfOk result (λ found. IfSome found (λ d. ShowsEach from.now (dev_name d))) }
         ensures writable { IfOk result (λ found. IfSome found (λ d. FitsEach (dev_name d))) }
-        ensures again { (d : DevName) → FitsEach (dev_name d) → from.now ≡ laid_out 256 (dev_name d) → IfOk result (λ found. found ≡ Some d) }
+        ensures again { (d : DevName) → FitsEach (dev_name d) →
+            from.now ≡ laid_out 256 (dev_name d) → IfOk result (λ found. found ≡ Some d) }
     {
         if from.len() != DevName::LEN {
             return Ok(None);
@@ -105,7 +107,9 @@ impl DevConfig {
         ensures refused { is_dev_config from.now ≡ false → result ≡ Ok None }
         ensures fields { IfOk result (λ found. IfSome found (λ c. ShowsEach from.now (dev_config c))) }
         ensures writable { IfOk result (λ found. IfSome found (λ c. FitsEach (dev_config c))) }
-        ensures again { (c : DevConfig) → FitsEach (dev_config c) → from.now ≡ laid_out (336 + length c.config) (dev_config c) → IfOk result (λ found. found ≡ Some c) }
+        ensures again { (c : DevConfig) → FitsEach (dev_config c) →
+            from.now ≡ laid_out (336 + length c.config) (dev_config c) →
+            IfOk result (λ found. found ≡ Some c) }
     {
         if from.len() < DevConfig::LEN {
             return Ok(None);

@@ -27,7 +27,9 @@ impl ConfigData {
         ensures refused { is_config_data from.now ≡ false → result ≡ Ok None }
         ensures fields { IfOk result (λ found. IfSome found (λ c. ShowsEach from.now (config_data c))) }
         ensures writable { IfOk result (λ found. IfSome found (λ c. FitsEach (config_data c))) }
-        ensures again { (c : ConfigData) → FitsEach (config_data c) → from.now ≡ laid_out (8 + length c.bytes) (config_data c) → IfOk result (λ found. found ≡ Some c) }
+        ensures again { (c : ConfigData) → FitsEach (config_data c) →
+            from.now ≡ laid_out (8 + length c.bytes) (config_data c) →
+            IfOk result (λ found. found ≡ Some c) }
     {
         if from.len() < ConfigData::LEN {
             return Ok(None);
@@ -72,7 +74,8 @@ impl VqConfig {
     pub fn read(from: &[u8]) -> Option<VqConfig>
         ensures formed { is_some result ≡ is_vq_config from.now }
         ensures fields { IfSome result (λ c. ShowsEach from.now (vq_config c)) }
-        ensures again { (c : VqConfig) → FitsEach (vq_config c) → from.now ≡ laid_out 32 (vq_config c) → result ≡ Some c }
+        ensures again { (c : VqConfig) → FitsEach (vq_config c) →
+            from.now ≡ laid_out 32 (vq_config c) → result ≡ Some c }
     {
         if from.len() != VqConfig::LEN || !are_zero(&from[6..]) {
             return None;

@@ -26,7 +26,8 @@ impl IotlbEntry {
     pub fn read(from: &[u8]) -> Option<IotlbEntry>
         ensures formed { is_some result ≡ is_iotlb_entry from.now }
         ensures fields { IfSome result (λ e. ShowsEach from.now (iotlb_entry e)) }
-        ensures again { (e : IotlbEntry) → FitsEach (iotlb_entry e) → from.now ≡ laid_out 32 (iotlb_entry e) → result ≡ Some e }
+        ensures again { (e : IotlbEntry) → FitsEach (iotlb_entry e) →
+            from.now ≡ laid_out 32 (iotlb_entry e) → result ≡ Some e }
     {
         if from.len() != IotlbEntry::LEN {
             return None;
@@ -69,7 +70,8 @@ impl IovaUmem {
     pub fn read(from: &[u8]) -> Option<IovaUmem>
         ensures formed { is_some result ≡ is_iova_umem from.now }
         ensures fields { IfSome result (λ u. ShowsEach from.now (iova_umem u)) }
-        ensures again { (u : IovaUmem) → FitsEach (iova_umem u) → from.now ≡ laid_out 48 (iova_umem u) → result ≡ Some u }
+        ensures again { (u : IovaUmem) → FitsEach (iova_umem u) →
+            from.now ≡ laid_out 48 (iova_umem u) → result ≡ Some u }
     {
         if from.len() != IovaUmem::LEN || !are_zero(&from[24..]) {
             return None;
@@ -114,7 +116,8 @@ impl IovaInfo {
     pub fn read(from: &[u8]) -> Option<IovaInfo>
         ensures formed { is_some result ≡ is_iova_info from.now }
         ensures fields { IfSome result (λ i. ShowsEach from.now (iova_info i)) }
-        ensures again { (i : IovaInfo) → FitsEach (iova_info i) → from.now ≡ laid_out 48 (iova_info i) → result ≡ Some i }
+        ensures again { (i : IovaInfo) → FitsEach (iova_info i) →
+            from.now ≡ laid_out 48 (iova_info i) → result ≡ Some i }
     {
         if from.len() != IovaInfo::LEN || !are_zero(&from[24..]) {
             return None;

@@ -39,7 +39,8 @@ impl Request {
         ensures formed { is_some result ≡ is_request from.now }
         ensures fields { IfSome result (λ r. ShowsEach from.now (request r)) }
         ensures only { IfSome result IsRequest }
-        ensures again { (r : Request) → IsRequest r → FitsEach (request r) → from.now ≡ laid_out 152 (request r) → result ≡ Some r }
+        ensures again { (r : Request) → IsRequest r → FitsEach (request r) →
+            from.now ≡ laid_out 152 (request r) → result ≡ Some r }
     {
         if from.len() != Request::LEN {
             return None;
@@ -116,7 +117,8 @@ impl Response {
     pub fn read(from: &[u8]) -> Option<Response>
         ensures formed { is_some result ≡ is_response from.now }
         ensures fields { IfSome result (λ r. ShowsEach from.now (response r)) }
-        ensures again { (r : Response) → FitsEach (response r) → from.now ≡ laid_out 152 (response r) → result ≡ Some r }
+        ensures again { (r : Response) → FitsEach (response r) →
+            from.now ≡ laid_out 152 (response r) → result ≡ Some r }
     {
         if from.len() != Response::LEN {
             return None;

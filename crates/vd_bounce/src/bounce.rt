@@ -46,7 +46,14 @@ impl BounceMap {
     pub fn new(alloc: Global, pages: u32, per_page: u32) -> Result<BounceMap, AllocError>
         requires some { 0 < per_page }
         requires few { per_page ≤ 16 }
-        ensures new { IfOk result (λ b. b ≡ record { frames = replicate pages None; area = None; user = None; per_page = per_page }) }
+        ensures new { IfOk result
+            (λ b. b ≡ record {
+              frames = replicate pages None;
+              area = None;
+              user = None;
+              per_page =
+                  per_page;
+            }) }
         ensures holds { IfOk result (λ b. (m : PoolMemory) → Holds b.frames m) }
     {
         Ok(BounceMap {
@@ -112,7 +119,8 @@ impl BounceMap {
         requires spare { 0 < pool.old.spare }
         ensures kept { Keeps self.old.frames self.new.frames pool.old pool.new }
         ensures bytes { (x : Place) → value self.new pool.new x ≡ value self.old pool.old x }
-        ensures present { (p : ℕ) → p < length self.old.frames → is_page_present self.new p ≡ ((p == page) || is_page_present self.old p) }
+        ensures present { (p : ℕ) → p < length self.old.frames →
+            is_page_present self.new p ≡ ((p == page) || is_page_present self.old p) }
         ensures same { SameShape self.old self.new }
         ensures spare { pool.old.spare ≤ pool.new.spare + 1 }
     {
@@ -127,7 +135,9 @@ impl BounceMap {
         requires size { pool.old.per_page ≡ self.old.per_page }
         requires there { IsThere self.old at (length bytes.now) }
         ensures kept { Keeps self.old.frames self.new.frames pool.old pool.new }
-        ensures bytes { (x : Place) → value self.new pool.new x ≡ over (home_place self.old at) bytes.now x (value self.old pool.old x) }
+        ensures bytes { (x : Place) →
+            value self.new pool.new x
+            ≡ over (home_place self.old at) bytes.now x (value self.old pool.old x) }
         ensures present { (p : ℕ) → is_page_present self.new p ≡ is_page_present self.old p }
         ensures frames { self.new.frames ≡ self.old.frames }
         ensures spare { pool.new.spare ≡ pool.old.spare }
@@ -151,7 +161,8 @@ impl BounceMap {
         requires holds { Holds self.now.frames pool.now }
         requires size { pool.now.per_page ≡ self.now.per_page }
         requires there { IsThere self.now at (length out.old) }
-        ensures { (i : ℕ) → i < length out.old → slice_index out.new i ≡ value self.now pool.now (home_place self.now (at + i)) }
+        ensures { (i : ℕ) → i < length out.old →
+            slice_index out.new i ≡ value self.now pool.now (home_place self.now (at + i)) }
     {
         if out.is_empty() {
             return;
@@ -205,7 +216,8 @@ impl BounceMap {
     /// Writes bytes into the area, which are bounce bytes too while they are registered.
     pub fn area_put(&mut self, offset: u64, bytes: &[u8])
         requires { offset + length bytes.now ≤ length (unwrap_or self.old.area []) }
-        ensures bytes { (m : PoolMemory) (x : Place) → value self.new m x ≡ over (Area offset) bytes.now x (value self.old m x) }
+        ensures bytes { (m : PoolMemory) (x : Place) →
+            value self.new m x ≡ over (Area offset) bytes.now x (value self.old m x) }
         ensures frames { self.new.frames ≡ self.old.frames }
         ensures same { SameShape self.old self.new }
     {
@@ -218,7 +230,8 @@ impl BounceMap {
     /// Fills a slice from the area.
     pub fn area_get(&self, offset: u64, out: &mut [u8])
         requires { offset + length out.old ≤ length (unwrap_or self.now.area []) }
-        ensures { (i : ℕ) → i < length out.old → slice_index out.new i ≡ slice_index (unwrap_or self.now.area []) (offset + i) }
+        ensures { (i : ℕ) → i < length out.old →
+            slice_index out.new i ≡ slice_index (unwrap_or self.now.area []) (offset + i) }
     {
         match &self.area {
             Some(area) => read_at(area, offset as usize, out),
@@ -234,7 +247,9 @@ impl BounceMap {
         requires spare { 0 < pool.old.spare }
         ensures kept { Keeps self.old.frames self.new.frames pool.old pool.new }
         ensures bytes { (x : Place) → value self.new pool.new x ≡ value self.old pool.old x }
-        ensures aside { (p : ℕ) → is_some (frame_of self.new.frames p) ≡ ((p == page) || is_some (frame_of self.old.frames p)) }
+        ensures aside { (p : ℕ) →
+            is_some (frame_of self.new.frames p)
+            ≡ ((p == page) || is_some (frame_of self.old.frames p)) }
         ensures same { SameShape self.old self.new }
         ensures spare { pool.old.spare ≤ pool.new.spare + 1 }
     {
@@ -250,7 +265,8 @@ impl BounceMap {
         requires area { is_some self.old.area ≡ true }
         requires room { offset + bounce_len self.old ≤ length (unwrap_or self.old.area []) }
         requires each { length in_use.now ≡ length self.old.frames }
-        requires used { (p : ℕ) → slice_index_or in_use.now p false ≡ true → is_page_present self.old p ≡ true }
+        requires used { (p : ℕ) → slice_index_or in_use.now p false ≡ true →
+            is_page_present self.old p ≡ true }
         ensures kept { Keeps self.old.frames self.new.frames pool.old pool.new }
         ensures bounce { (a : ℕ) → value self.new pool.new (Iova a)
             ≡ (if slice_index_or in_use.now (a / page_size self.old) false then value self.old pool.old (Iova a) else 0) }
@@ -275,7 +291,8 @@ impl BounceMap {
         requires size { pool.old.per_page ≡ self.old.per_page }
         requires registered { is_some self.old.user ≡ true }
         requires each { length in_use.now ≡ length self.old.frames }
-        requires used { (p : ℕ) → slice_index_or in_use.now p false ≡ true → is_some (frame_of self.old.frames p) ≡ true }
+        requires used { (p : ℕ) → slice_index_or in_use.now p false ≡ true →
+            is_some (frame_of self.old.frames p) ≡ true }
         ensures kept { Keeps self.old.frames self.new.frames pool.old pool.new }
         ensures bounce { (a : ℕ) → value self.new pool.new (Iova a)
             ≡ (if slice_index_or in_use.now (a / page_size self.old) false then value self.old pool.old (home_place self.old a) else 0) }
@@ -301,7 +318,9 @@ impl BounceMap {
         ensures bytes { (a : ℕ) → value self.new pool.new (Iova a)
             ≡ (if a / page_size self.old == page then 0 else value self.old pool.old (Iova a)) }
         ensures area { (o : ℕ) → value self.new pool.new (Area o) ≡ value self.old pool.old (Area o) }
-        ensures frames { (p : ℕ) → is_some (frame_of self.new.frames p) ≡ (not (p == page) && is_some (frame_of self.old.frames p)) }
+        ensures frames { (p : ℕ) →
+            is_some (frame_of self.new.frames p)
+            ≡ (not (p == page) && is_some (frame_of self.old.frames p)) }
         ensures same { SameShape self.old self.new }
     {
         rows::drop_page(&mut self.frames, pool, page as usize);

@@ -8,7 +8,5 @@
 
 mod bounce;
 mod rows;
-#[cfg(test)]
-mod tests;
 
 pub use bounce::{AreaError, BounceMap};

@@ -68,7 +68,8 @@ pub fn get(frames: &[Option<Frame>], pool: &Pool, size: usize, at: usize, out: &
     requires size { frame_size pool.now ≡ size }
     requires reaches { Reaches size frames.now at (length out.old) }
     requires end { at + length out.old < 2 ^ 63 }
-    ensures { (i : ℕ) → i < length out.old → slice_index out.new i ≡ frame_byte size frames.now pool.now (at + i) }
+    ensures { (i : ℕ) → i < length out.old →
+        slice_index out.new i ≡ frame_byte size frames.now pool.now (at + i) }
 {
     let mut done = 0;
     while done < out.len() {
@@ -99,8 +100,10 @@ pub fn ensure(frames: &mut [Option<Frame>], pool: &mut Pool, page: usize)
     requires page { page < length frames.old }
     requires spare { 0 < pool.old.spare }
     ensures kept { Keeps frames.old frames.new pool.old pool.new }
-    ensures bytes { (size a : ℕ) → frame_byte size frames.new pool.new a ≡ frame_byte size frames.old pool.old a }
-    ensures present { (p : ℕ) → is_some (frame_of frames.new p) ≡ ((p == page) || is_some (frame_of frames.old p)) }
+    ensures bytes { (size a : ℕ) →
+        frame_byte size frames.new pool.new a ≡ frame_byte size frames.old pool.old a }
+    ensures present { (p : ℕ) →
+        is_some (frame_of frames.new p) ≡ ((p == page) || is_some (frame_of frames.old p)) }
     ensures spare { pool.old.spare ≤ pool.new.spare + 1 }
 {
     if frames[page].is_none() {
@@ -117,8 +120,11 @@ pub fn drop_page(frames: &mut [Option<Frame>], pool: &mut Pool, page: usize)
     requires holds { Holds frames.old pool.old }
     requires page { page < length frames.old }
     ensures kept { Keeps frames.old frames.new pool.old pool.new }
-    ensures bytes { (size a : ℕ) → frame_byte size frames.new pool.new a ≡ (if a / size == page then 0 else frame_byte size frames.old pool.old a) }
-    ensures present { (p : ℕ) → is_some (frame_of frames.new p) ≡ (not (p == page) && is_some (frame_of frames.old p)) }
+    ensures bytes { (size a : ℕ) →
+        frame_byte size frames.new pool.new a
+        ≡ (if a / size == page then 0 else frame_byte size frames.old pool.old a) }
+    ensures present { (p : ℕ) →
+        is_some (frame_of frames.new p) ≡ (not (p == page) && is_some (frame_of frames.old p)) }
 {
     match frames[page].take() {
         Some(frame) => pool.give(frame),
@@ -218,7 +224,8 @@ pub fn adopt(
     requires some { 0 < size }
     requires size { frame_size pool.old ≡ size }
     requires each { length in_use.now ≡ length frames.old }
-    requires used { (p : ℕ) → slice_index_or in_use.now p false ≡ true → is_some (frame_of frames.old p) ≡ true }
+    requires used { (p : ℕ) → slice_index_or in_use.now p false ≡ true →
+        is_some (frame_of frames.old p) ≡ true }
     requires room { from + size * length frames.old ≤ length area.old }
     ensures kept { Keeps frames.old frames.new pool.old pool.new }
     ensures bytes { (a : ℕ) → frame_byte size frames.new pool.new a
@@ -250,7 +257,8 @@ pub fn release(
     requires some { 0 < size }
     requires size { frame_size pool.old ≡ size }
     requires each { length in_use.now ≡ length frames.old }
-    requires used { (p : ℕ) → slice_index_or in_use.now p false ≡ true → is_some (frame_of frames.old p) ≡ true }
+    requires used { (p : ℕ) → slice_index_or in_use.now p false ≡ true →
+        is_some (frame_of frames.old p) ≡ true }
     requires room { from + size * length frames.old ≤ length area.now }
     ensures kept { Keeps frames.old frames.new pool.old pool.new }
     ensures bytes { (a : ℕ) → frame_byte size frames.new pool.new a

@@ -106,7 +106,8 @@ impl Buffers {
     /// Frees a buffer.
     pub fn free(&mut self, buffer: u64)
         requires { is_some (place_of self.old buffer) ≡ true }
-        ensures { (g : ℕ) (acts : List Act) → Stands g acts self.old → Stands g (Driver (Freed buffer) ∷ acts) self.new }
+        ensures { (g : ℕ) (acts : List Act) → Stands g acts self.old →
+            Stands g (Driver (Freed buffer) ∷ acts) self.new }
     {
         let _bytes = self.lend(buffer);
     }

@@ -7,7 +7,5 @@
 
 mod buffer;
 mod buffers;
-#[cfg(test)]
-mod tests;
 
 pub use buffers::{Buffers, LIMIT};

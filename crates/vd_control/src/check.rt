@@ -51,7 +51,8 @@ fn is_bad_name(name: &[u8]) -> bool
 }
 
 fn is_bad_config(config: &DevConfig) -> bool
-    ensures { result ≡ is_bad_config config.now.device_id config.now.features config.now.vq_num config.now.vq_align config.now.config }
+    ensures { result ≡ is_bad_config config.now.device_id config.now.features config.now.vq_num
+        config.now.vq_align config.now.config }
 {
     config.device_id != BLOCK
         || !has_feature(config.features, ACCESS_PLATFORM)

@@ -59,7 +59,8 @@ impl ConfigSpace {
 
     /// Fills `out` with the bytes from `offset` on.
     pub fn read(&self, offset: u64, out: &mut [u8]) -> Result<(), Errno>
-        ensures refused { (result ≡ Err Errno.Inval) ↔ IsTrue (is_outside_config self.now offset (length out.old)) }
+        ensures refused { (result
+            ≡ Err Errno.Inval) ↔ IsTrue (is_outside_config self.now offset (length out.old)) }
         ensures only { IsOkUnless result Errno.Inval }
         ensures ok { OnOk result (out.new ≡ slice_range self.now offset (offset + length out.old)) }
         ensures err { OnErr result (out.new ≡ out.old) }
@@ -74,7 +75,8 @@ impl ConfigSpace {
 
     /// Puts `bytes` in place of those from `offset` on.
     pub fn write(&mut self, offset: u64, bytes: &[u8]) -> Result<(), Errno>
-        ensures refused { (result ≡ Err Errno.Inval) ↔ IsTrue (is_outside_config self.old offset (length bytes.now)) }
+        ensures refused { (result
+            ≡ Err Errno.Inval) ↔ IsTrue (is_outside_config self.old offset (length bytes.now)) }
         ensures only { IsOkUnless result Errno.Inval }
         ensures ok { OnOk result (self.new ≡ overlay self.old offset bytes.now) }
         ensures err { OnErr result (self.new ≡ self.old) }

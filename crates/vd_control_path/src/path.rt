@@ -47,7 +47,9 @@ impl ControlPath {
         queues: u32,
         config: Bytes,
     ) -> Result<ControlPath, AllocError>
-        ensures stands { IfOk result (λ p. PathBefore (record { features = features; queues = queues; config = config }) [] p) }
+        ensures stands { IfOk result
+            (λ p. PathBefore (record { features = features; queues = queues; config = config }) []
+            p) }
         ensures within { IfOk result (λ p. IsWithin 0 p) }
     {
         let state = State::new(alloc, queues, features)?;

@@ -20,7 +20,7 @@ use Rattle.vr_device.specs.Device.{next_by, pop_of, popped}
 use Rattle.vr_device.specs.declared.error.PopError.TheVariants as pop
 use Rattle.blk_daemon.specs.declared.error.FetchError.{FetchError}
 use Rattle.blk_daemon.specs.declared.error.FetchError.TheVariants as fetch
-use Rattle.blk_daemon.specs.Held.{hand_of}
+use Rattle.blk_daemon.specs.Held.{hand_with}
 use Rattle.blk_daemon.specs.Fetched.{request_by, with_bytes, where_read, where_told, then_told, hand_at}
 
 -- a refusal
@@ -62,7 +62,7 @@ module _ (x : Setting) (acts : List Act) (q : ℕ) (side : Side) where
 
   bytes_is : (chain : Chain) (r : Result (List ℕ) ℕ)
       → read_or r (λ bytes. event_or x acts side.place (fetched_turn acts q side.place side.position chain bytes)) ≡ turn_by (then_told_here (with_bytes chain r))
-  bytes_is chain (Ok bytes) = told_by (hand_of chain bytes) (has_event_idx acts)
+  bytes_is chain (Ok bytes) = told_by (hand_with chain bytes) (has_event_idx acts)
   bytes_is chain (Err at) = refl
 
   shape_is : (chain : Chain) (t : Bool)

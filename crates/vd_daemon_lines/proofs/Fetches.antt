@@ -19,7 +19,7 @@ use Rattle.vr_device.specs.Device.{next_by, pop_of, popped, resumed_at}
 use Rattle.vr_device.specs.declared.error.PopError.TheVariants as pop
 use Rattle.blk_daemon.specs.declared.error.FetchError.{FetchError}
 use Rattle.blk_daemon.specs.declared.error.FetchError.TheVariants as fetch
-use Rattle.blk_daemon.specs.Held.{Held, InHand, hand_of}
+use Rattle.blk_daemon.specs.Held.{Held, InHand, hand_with}
 use Rattle.blk_daemon.specs.Fetched.{request_by, with_bytes, where_read, where_told, then_told, hand_at, with_hand, fetched_at, side_or, unless_busy, fetched_of}
 use Rattle.vd_queue_sides.specs.Daemon.{PositionStands, IsAt}
 use Rattle.vd_queue_sides.proofs.Daemons.{first_is, first_loads, fetch_begins, fetch_goes_on, fetch_holds, hand_is}
@@ -31,7 +31,7 @@ use Rattle.vd_daemon_lines.proofs.FetchTurns.{failed_turn, hand_turn, turn_by, f
 record Read (m : Memory) (place : RingPlace) (event_idx : Bool) (chain : Chain) (h : Hand) : Type 0 where
   bytes : List ℕ
   parts : readable_bytes m chain.parts ≡ Ok bytes
-  is : hand_of chain bytes ≡ h
+  is : hand_with chain bytes ≡ h
   told : event_idx ≡ true → IsOk (read m (available_event_at place) 2)
 
 record Walked (m : Memory) (place : RingPlace) (event_idx : Bool) (e : Ending) (h : Hand) : Type 0 where
@@ -60,7 +60,7 @@ module _ (m : Memory) (indirect event_idx : Bool) (side : Side) (h : Hand) where
   told_was k false e = (λ t. absurd (cc), same_ok k h (Ok k) refl e)
 
   bytes_were : (chain : Chain) (r : Result (List ℕ) ℕ) → readable_bytes m chain.parts ≡ r → then_told_here (with_bytes chain r) ≡ Ok h → Read m side.place event_idx chain h
-  bytes_were chain (Ok bytes) is e = let w = told_was (hand_of chain bytes) event_idx e in record { bytes = bytes; parts = is; is = w.1; told = w.0 }
+  bytes_were chain (Ok bytes) is e = let w = told_was (hand_with chain bytes) event_idx e in record { bytes = bytes; parts = is; is = w.1; told = w.0 }
   bytes_were chain (Err at) is e = absurd (cc)
 
   shape_was : (chain : Chain) (t : Bool)

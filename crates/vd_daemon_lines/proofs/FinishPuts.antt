@@ -19,7 +19,7 @@ use Rattle.vd_ring_memory.specs.Puts.{AreDaemonPuts}
 use Rattle.vd_ring_memory.proofs.Accepting.{no_fault}
 use Rattle.vd_ring_memory.proofs.Writing.{daemon_put, reached_all}
 use Rattle.vd_queue_sides.specs.Daemon.{is_daemon_act}
-use Rattle.blk_daemon.specs.Finished.{missing_at, first_of, first_unwritable, deciding_field_at, first_missing, spread_over, answer_bytes, finished_memory}
+use Rattle.blk_daemon.specs.Finished.{missing_at, either_of, first_unwritable, deciding_field_at, first_missing, spread_over, answer_bytes, finished_memory}
 
 -- these acts are puts, after which the daemon sees this
 pub record Leaves (x : Setting) (acts : List Act) (q : ℕ) (puts : List Act) (m : Memory) : Type 0 where
@@ -28,7 +28,7 @@ pub record Leaves (x : Setting) (acts : List Act) (q : ℕ) (puts : List Act) (m
   pub same : daemon_memory x (puts ++ acts) ≡ m
   pub reach : (a : ℕ) → is_accessible x (puts ++ acts) a ≡ is_accessible x acts a
 
-first_none : (o p : Option ℕ) → first_of o p ≡ None → (o ≡ None) × (p ≡ None)
+first_none : (o p : Option ℕ) → either_of o p ≡ None → (o ≡ None) × (p ≡ None)
 first_none None p e = (refl, e)
 first_none (Some at) p e = absurd (cc)
 
@@ -68,7 +68,7 @@ module _ (x : Setting) (acts : List Act) (q : ℕ) where
       → Leaves x acts q (spread_acts parts (drop part.len bytes) (Node (Daemon_put part.at (take part.len bytes)) ∷ puts))
       (spread_over (written m part.at (take part.len bytes)) parts (drop part.len bytes)))
       → (first_unwritable seen parts ≡ None → Leaves x acts q (spread_acts parts bytes puts) (spread_over m parts bytes))
-      → (t : Bool) → (if t then first_of (missing_at (read seen part.at part.len)) (first_unwritable seen parts) else first_unwritable seen parts) ≡ None
+      → (t : Bool) → (if t then either_of (missing_at (read seen part.at part.len)) (first_unwritable seen parts) else first_unwritable seen parts) ≡ None
       → Leaves x acts q (if t then spread_acts parts (drop part.len bytes) (Node (Daemon_put part.at (take part.len bytes)) ∷ puts) else spread_acts parts bytes puts)
       (if t then spread_over (written m part.at (take part.len bytes)) parts (drop part.len bytes) else spread_over m parts bytes)
   spread_part part parts bytes puts m s put pass true e =
@@ -90,8 +90,8 @@ module _ (x : Setting) (acts : List Act) (q : ℕ) where
       let element = missing_at (read seen (used_element_at side.place side.used) 8) in
       let index = missing_at (read seen (used_index_at side.place) 2) in
       let field = missing_at (read seen (deciding_field_at event_idx side.place) 2) in
-      let p = first_none (first_unwritable seen h.parts) (first_of element (first_of index field)) none in
-      let r = first_none element (first_of index field) p.1 in
+      let p = first_none (first_unwritable seen h.parts) (either_of element (either_of index field)) none in
+      let r = first_none element (either_of index field) p.1 in
       let s = first_none index field r.1 in
       let len = element_len (little_bytes 4 h.head) (little_bytes 4 h.writable) (n_bytes 4 h.head) (n_bytes 4 h.writable) in
       let two = n_bytes 2 (next16 side.used) in

@@ -14,7 +14,7 @@ use Rattle.vd_model.specs.Turn.{Turn}
 use Rattle.vd_model.specs.DaemonTurns.{Hand, daemon_memory, has_event_idx, read_or, unwritable_or, deciding_field, finish_hand, finished_turn, finish_puts}
 use Rattle.vr_device.specs.Side.{Side}
 use Rattle.vr_device.specs.Device.{interrupt, by_event, by_flags}
-use Rattle.blk_daemon.specs.Finished.{missing_at, first_of, first_unwritable, deciding_field_at, first_missing, used_next}
+use Rattle.blk_daemon.specs.Finished.{missing_at, either_of, first_unwritable, deciding_field_at, first_missing, used_next}
 
 -- ---- what can't be accessed
 
@@ -22,7 +22,7 @@ abbrev pub by_missing : Option ℕ → Turn Act → Turn Act
 by_missing None turn = turn
 by_missing (Some at) turn = record { answer = answer.Bus at; acts = [] }
 
-first_by : (o p : Option ℕ) (turn : Turn Act) → by_missing o (by_missing p turn) ≡ by_missing (first_of o p) turn
+first_by : (o p : Option ℕ) (turn : Turn Act) → by_missing o (by_missing p turn) ≡ by_missing (either_of o p) turn
 first_by None p turn = refl
 first_by (Some at) p turn = refl
 
@@ -35,7 +35,7 @@ unwritable_by m [] turn = refl
 unwritable_by m (part ∷ parts) turn = by part.writable (read m part.at part.len) (unwritable_by m parts turn) where
   by : (t : Bool) (r : Result (List ℕ) ℕ) → unwritable_or m parts turn ≡ by_missing (first_unwritable m parts) turn
       → (if t then read_or r (λ bytes. unwritable_or m parts turn) else unwritable_or m parts turn)
-      ≡ by_missing (if t then first_of (missing_at r) (first_unwritable m parts) else first_unwritable m parts) turn
+      ≡ by_missing (if t then either_of (missing_at r) (first_unwritable m parts) else first_unwritable m parts) turn
   by true (Ok bytes) rest = rest
   by true (Err at) rest = refl
   by false r rest = rest
@@ -63,8 +63,8 @@ tested x acts q side h end =
     read_by index (read_or field (λ bytes. turn))
     ∙ ap (by_missing (missing_at index)) (read_by field turn ∙ ap (λ at. by_missing (missing_at (read m at 2)) turn) (field_is acts side.place))
     ∙ first_by (missing_at index) (missing_at (read m (deciding_field_at (has_event_idx acts) side.place) 2)) turn)
-    ∙ first_by (missing_at element) (first_of (missing_at index) (missing_at (read m (deciding_field_at (has_event_idx acts) side.place) 2))) turn)
-    ∙ first_by (first_unwritable m h.parts) (first_of (missing_at element) (first_of (missing_at index) (missing_at (read m (deciding_field_at (has_event_idx acts) side.place) 2)))) turn
+    ∙ first_by (missing_at element) (either_of (missing_at index) (missing_at (read m (deciding_field_at (has_event_idx acts) side.place) 2))) turn)
+    ∙ first_by (first_unwritable m h.parts) (either_of (missing_at element) (either_of (missing_at index) (missing_at (read m (deciding_field_at (has_event_idx acts) side.place) 2)))) turn
 
 -- ---- whether the driver is interrupted
 

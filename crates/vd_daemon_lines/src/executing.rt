@@ -49,12 +49,15 @@ pub fn execute<T: Hears, I: Image>(
         IsKnown made acts q queue.now → IsDisk (I.content disk.old) drive.now.window drive.now.offered daemon.old.name b →
         Tells (λ said. T.heard told.old said told.new) (execute_turn x made b result acts q)
         (AfterDisk x acts q drive.now.window (I.content disk.old) (I.content disk.new) daemon.new) }
-    ensures goes_on { (x : Setting) (acts : List Act) (q : ℕ) → DaemonStands x acts q daemon.old → GoesOn x acts q daemon.new }
+    ensures goes_on { (x : Setting) (acts : List Act) (q : ℕ) → DaemonStands x acts q daemon.old →
+        GoesOn x acts q daemon.new }
     ensures cause { result ≡ true → Rose (I.faults disk.old) (I.faults disk.new) }
 
     // Where there is no such queue, or nothing that wasn't executed before, all is as it was.
-    ensures missing { queue.now.info ≡ None → (disk.new ≡ disk.old) × (daemon.new ≡ daemon.old) × (result ≡ false) }
-    ensures idle { to_execute daemon.old.request ≡ None → (disk.new ≡ disk.old) × (daemon.new ≡ daemon.old) × (result ≡ false) }
+    ensures missing { queue.now.info ≡ None →
+        (disk.new ≡ disk.old) × (daemon.new ≡ daemon.old) × (result ≡ false) }
+    ensures idle { to_execute daemon.old.request ≡ None →
+        (disk.new ≡ disk.old) × (daemon.new ≡ daemon.old) × (result ≡ false) }
 
     // A flush succeeds only where the count of flushes rose.
     ensures flushed { (h : Hand) (end : Execution) → to_execute daemon.old.request ≡ Some h →

@@ -38,7 +38,8 @@ fn finished(
     requires size { pool.old.per_page ≡ domain.old.bounce.per_page }
     requires reached { IsReached domain.old pool.old }
     ensures refused { (result ≡ Err FinishError.NoRequest) ↔ (executed_in daemon.old.request ≡ None) }
-    ensures untouched { result ≡ Err FinishError.NoRequest → daemon_map domain.new pool.new ≡ daemon_map domain.old pool.old }
+    ensures untouched { result ≡ Err FinishError.NoRequest →
+        daemon_map domain.new pool.new ≡ daemon_map domain.old pool.old }
     ensures finished { (side : Side) (h : Hand) (end : Execution) → daemon.old.side ≡ Some side
         → daemon.old.request ≡ Some (record { hand = h; outcome = Some end })
         → Finishes (daemon_map domain.old pool.old) side (has_feature features 29) h end result (Some (daemon_map domain.new pool.new)) }

@@ -41,7 +41,8 @@ impl Device {
 
     /// Whether something of the driver's is left: a mapping, a coherent region, or a message that wasn't taken.
     fn is_busy(&self) -> bool
-        ensures { (x : Setting) (made : Creation) (acts : List Act) (m : PoolMemory) → Stands x made acts self.now m → result ≡ is_busy acts }
+        ensures { (x : Setting) (made : Creation) (acts : List Act) (m : PoolMemory) →
+            Stands x made acts self.now m → result ≡ is_busy acts }
     {
         self.memory.is_live() || self.path.messages.untaken() > 0
     }
@@ -53,7 +54,8 @@ impl Device {
         ensures line { (x : Setting) (made : Creation) (acts : List Act) (m : PoolMemory) → Stands x made acts self.old m
             → Tells (λ said. T.heard told.old said told.new) (detach_turn acts) (After x made acts self.new m) }
         ensures rest { KeepsFrames self.old.memory self.new.memory }
-        ensures path { (most : ℕ) → path.IsWithin most self.old.path → path.IsWithin (most + 1) self.new.path }
+        ensures path { (most : ℕ) → path.IsWithin most self.old.path →
+            path.IsWithin (most + 1) self.new.path }
     {
         if self.is_busy() {
             told.refused(Errno::Busy);
@@ -71,7 +73,8 @@ impl Device {
         ensures line { (x : Setting) (made : Creation) (acts : List Act) (m : PoolMemory) → Stands x made acts self.old m
             → MayTell (λ said. T.heard told.old said told.new) (reset_turn now acts) (After x made acts self.new m) result }
         ensures rest { KeepsFrames self.old.memory self.new.memory }
-        ensures path { (most : ℕ) → path.IsWithin most self.old.path → path.IsWithin (most + 1) self.new.path }
+        ensures path { (most : ℕ) → path.IsWithin most self.old.path →
+            path.IsWithin (most + 1) self.new.path }
     {
         if self.path.messages.broken() {
             self.clear();
@@ -98,7 +101,8 @@ impl Device {
         ensures line { (x : Setting) (made : Creation) (acts : List Act) (m : PoolMemory) → Stands x made acts self.old m
             → MayTell (λ said. T.heard told.old said told.new) (attached_turn made now acts step.now) (After x made acts self.new m) result }
         ensures rest { KeepsFrames self.old.memory self.new.memory }
-        ensures path { (most : ℕ) → path.IsWithin most self.old.path → path.IsWithin (most + 1) self.new.path }
+        ensures path { (most : ℕ) → path.IsWithin most self.old.path →
+            path.IsWithin (most + 1) self.new.path }
         ensures frugal { is_kick step.now ≡ true → IsOk result }
     {
         match step {
@@ -145,7 +149,8 @@ impl Device {
         ensures line { (x : Setting) (made : Creation) (acts : List Act) (m : PoolMemory) → Stands x made acts self.old m
             → MayTell (λ said. T.heard told.old said told.new) (bus_turn made now acts step.now) (After x made acts self.new m) result }
         ensures rest { KeepsFrames self.old.memory self.new.memory }
-        ensures path { (most : ℕ) → path.IsWithin most self.old.path → path.IsWithin (most + 1) self.new.path }
+        ensures path { (most : ℕ) → path.IsWithin most self.old.path →
+            path.IsWithin (most + 1) self.new.path }
         ensures frugal { is_kick step.now ≡ true → IsOk result }
     {
         if self.lacks_bus(step) {

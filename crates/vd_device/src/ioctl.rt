@@ -83,7 +83,8 @@ impl Device {
         ensures line { (x : Setting) (made : Creation) (acts : List Act) → Stands x made acts self.old pool.old
             → MayTell (λ said. T.heard told.old said told.new) (ioctl_turn x made acts (Some (seen_as meant.now))) (After x made acts self.new pool.new) result }
         ensures rest { KeepsRest self.old.memory self.new.memory pool.old pool.new }
-        ensures path { (most : ℕ) → path.IsWithin most self.old.path → path.IsWithin (most + 1) self.new.path }
+        ensures path { (most : ℕ) → path.IsWithin most self.old.path →
+            path.IsWithin (most + 1) self.new.path }
     {
         match meant {
             Ioctl::Node(step) => {
@@ -120,7 +121,8 @@ impl Device {
         ensures line { (x : Setting) (made : Creation) (acts : List Act) → Stands x made acts self.old pool.old
             → MayTell (λ said. T.heard told.old said told.new) (ioctl_turn x made acts (ioctl_of number bytes.now)) (After x made acts self.new pool.new) result }
         ensures rest { KeepsRest self.old.memory self.new.memory pool.old pool.new }
-        ensures path { (most : ℕ) → path.IsWithin most self.old.path → path.IsWithin (most + 1) self.new.path }
+        ensures path { (most : ℕ) → path.IsWithin most self.old.path →
+            path.IsWithin (most + 1) self.new.path }
     {
         match ioctl_in(number, bytes) {
             Some(meant) => self.meant(pool, &meant, told),

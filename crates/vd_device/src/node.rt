@@ -42,7 +42,8 @@ impl Device {
         ensures line { (x : Setting) (made : Creation) (acts : List Act) → Stands x made acts self.old pool.old
             → Tells (λ said. T.heard told.old said told.new) (plain_turn made acts step.now) (After x made acts self.new pool.new) }
         ensures rest { KeepsRest self.old.memory self.new.memory pool.old pool.new }
-        ensures path { (most : ℕ) → path.IsWithin most self.old.path → path.IsWithin (most + 1) self.new.path }
+        ensures path { (most : ℕ) → path.IsWithin most self.old.path →
+            path.IsWithin (most + 1) self.new.path }
     {
         match step {
             NodeStep::Close => {
@@ -75,7 +76,8 @@ impl Device {
         ensures line { (x : Setting) (made : Creation) (acts : List Act) → Stands x made acts self.old pool.old
             → Tells (λ said. T.heard told.old said told.new) (open_node_turn x made acts step.now) (After x made acts self.new pool.new) }
         ensures rest { KeepsRest self.old.memory self.new.memory pool.old pool.new }
-        ensures path { (most : ℕ) → path.IsWithin most self.old.path → path.IsWithin (most + 1) self.new.path }
+        ensures path { (most : ℕ) → path.IsWithin most self.old.path →
+            path.IsWithin (most + 1) self.new.path }
     {
         self.plain_node(pool, step, told);
     }
@@ -93,7 +95,8 @@ impl Device {
         ensures line { (x : Setting) (made : Creation) (acts : List Act) → Stands x made acts self.old pool.old
             → MayTell (λ said. T.heard told.old said told.new) (open_node_turn x made acts step.now) (After x made acts self.new pool.new) result }
         ensures rest { KeepsRest self.old.memory self.new.memory pool.old pool.new }
-        ensures path { (most : ℕ) → path.IsWithin most self.old.path → path.IsWithin (most + 1) self.new.path }
+        ensures path { (most : ℕ) → path.IsWithin most self.old.path →
+            path.IsWithin (most + 1) self.new.path }
         ensures frugal { is_plain step.now ≡ true → IsOk result }
     {
         match step {
@@ -133,7 +136,8 @@ impl Device {
         ensures line { (x : Setting) (made : Creation) (acts : List Act) → Stands x made acts self.old pool.old
             → MayTell (λ said. T.heard told.old said told.new) (node_turn x made acts step.now) (After x made acts self.new pool.new) result }
         ensures rest { KeepsRest self.old.memory self.new.memory pool.old pool.new }
-        ensures path { (most : ℕ) → path.IsWithin most self.old.path → path.IsWithin (most + 1) self.new.path }
+        ensures path { (most : ℕ) → path.IsWithin most self.old.path →
+            path.IsWithin (most + 1) self.new.path }
         ensures frugal { is_plain step.now ≡ true → IsOk result }
     {
         if self.lacks_session(step) {

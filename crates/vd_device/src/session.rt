@@ -27,7 +27,8 @@ impl Device {
         ensures stands { (x : Setting) (made : Creation) (done : List Act) → Stands x made done self.old pool.old
             → Stands x made (Message_act Lost ∷ Node Closed ∷ registration_end (registration_of done) ++ done) self.new pool.new }
         ensures rest { KeepsRest self.old.memory self.new.memory pool.old pool.new }
-        ensures path { (most : ℕ) → path.IsWithin most self.old.path → path.IsWithin (most + 1) self.new.path }
+        ensures path { (most : ℕ) → path.IsWithin most self.old.path →
+            path.IsWithin (most + 1) self.new.path }
     {
         self.memory.end_session(pool);
         self.path.close();
@@ -39,7 +40,8 @@ impl Device {
         ensures stands { (x : Setting) (made : Creation) (done : List Act) (m : PoolMemory) → Stands x made done self.old m
             → Stands x made (act.State Cleared ∷ done) self.new m }
         ensures rest { KeepsFrames self.old.memory self.new.memory }
-        ensures path { (most : ℕ) → path.IsWithin most self.old.path → path.IsWithin (most + 1) self.new.path }
+        ensures path { (most : ℕ) → path.IsWithin most self.old.path →
+            path.IsWithin (most + 1) self.new.path }
     {
         self.path.reset();
         self.memory.reset();

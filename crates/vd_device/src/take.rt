@@ -52,7 +52,8 @@ impl Device {
         ensures stands { (x : Setting) (made : Creation) (acts : List Act) (m : PoolMemory) → Stands x made acts self.old m
             → Stands x made (failed_acts body ++ acts) self.new m }
         ensures rest { KeepsFrames self.old.memory self.new.memory }
-        ensures path { (most : ℕ) → path.IsWithin most self.old.path → path.IsWithin (most + 1) self.new.path }
+        ensures path { (most : ℕ) → path.IsWithin most self.old.path →
+            path.IsWithin (most + 1) self.new.path }
     {
         if !asks_reset(body) {
             return;
@@ -66,7 +67,8 @@ impl Device {
         ensures stands { (x : Setting) (made : Creation) (acts : List Act) (m : PoolMemory) → Stands x made acts self.old m
             → Stands x made (done_acts body ++ acts) self.new m }
         ensures rest { KeepsFrames self.old.memory self.new.memory }
-        ensures path { (most : ℕ) → path.IsWithin most self.old.path → path.IsWithin (most + 1) self.new.path }
+        ensures path { (most : ℕ) → path.IsWithin most self.old.path →
+            path.IsWithin (most + 1) self.new.path }
     {
         if asks_reset(body) {
             self.clear();
@@ -85,7 +87,8 @@ impl Device {
         ensures line { (x : Setting) (made : Creation) (acts : List Act) (m : PoolMemory) → Stands x made acts self.old m
             → Tells (λ said. T.heard told.old said told.new) (take_turn id (message_told (message_acts acts) id)) (After x made acts self.new m) }
         ensures rest { KeepsFrames self.old.memory self.new.memory }
-        ensures path { (most : ℕ) → path.IsWithin most self.old.path → path.IsWithin (most + 1) self.new.path }
+        ensures path { (most : ℕ) → path.IsWithin most self.old.path →
+            path.IsWithin (most + 1) self.new.path }
     {
         match self.path.messages.take(id) {
             TakeAnswer::Pending => told.answer(Answer::Pending),

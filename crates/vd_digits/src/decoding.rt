@@ -25,7 +25,8 @@ static HEX_DIGIT_VALUES: [u8; 256] = [
 /// The value of a digit; 99 where the byte is none.
 #[inline]
 fn hex_digit_of(byte: u8) -> u8
-    ensures digit { MatchOption (hex_digit_value byte) (result ≡ 99) (λ digit. (result ≡ digit) × (digit ≤ 15)) }
+    ensures digit { MatchOption (hex_digit_value byte) (result ≡ 99)
+        (λ digit. (result ≡ digit) × (digit ≤ 15)) }
     ensures small { result ≤ 99 }
 {
     HEX_DIGIT_VALUES[byte as usize]
@@ -47,7 +48,8 @@ fn pair_of(high: u8, low: u8) -> Option<u8>
 /// Decodes two digits for each byte. It says whether all of them are digits.
 fn decode_pairs(text: &[u8], out: &mut [u8]) -> bool
     requires { length text.now ≡ 2 * length out.old }
-    ensures { MatchBool result (decode_pairs 0 text.now ≡ Ok out.new) (result_ok (decode_pairs 0 text.now) ≡ None) }
+    ensures { MatchBool result (decode_pairs 0 text.now
+        ≡ Ok out.new) (result_ok (decode_pairs 0 text.now) ≡ None) }
 {
     'bytes: for i in 0..out.len() {
         match pair_of(text[2 * i], text[2 * i + 1]) {
@@ -62,7 +64,8 @@ fn decode_pairs(text: &[u8], out: &mut [u8]) -> bool
 /// the text is one such byte or more; if it isn't, nothing is said of what `into` then holds.
 #[tactic(auto, unfolding(vd_model::specs::Fields::hex_field))]
 pub fn decode(text: &[u8], into: &mut Vec<u8>) -> Result<bool, AllocError>
-    ensures { IfOk result (λ all. MatchBool all (hex_field text.now ≡ Some into.new.items) (hex_field text.now ≡ None)) }
+    ensures { IfOk result (λ all. MatchBool all (hex_field text.now
+        ≡ Some into.new.items) (hex_field text.now ≡ None)) }
 {
     if text.is_empty() || text.len() % 2 != 0 {
         return Ok(false);

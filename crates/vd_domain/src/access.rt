@@ -75,7 +75,8 @@ pub fn read(
     requires shared_size { store.now.per_page ≡ shared.now.per_page }
     requires small { IsSmall bounce.now }
     requires reach { (a : ℕ) → at ≤ a → a < at + length out.old → is_reached bounce.now shared.now a ≡ true }
-    ensures { (i : ℕ) → i < length out.old → slice_index out.new i ≡ byte_at bounce.now pool.now shared.now store.now (at + i) }
+    ensures { (i : ℕ) → i < length out.old →
+        slice_index out.new i ≡ byte_at bounce.now pool.now shared.now store.now (at + i) }
 {
     let end = end_of(bounce);
     let near = near(end, at, out.len());
@@ -99,7 +100,8 @@ pub fn write(
     requires shared_size { store.old.per_page ≡ shared.old.per_page }
     requires small { IsSmall bounce.old }
     requires plain { shared.old.user ≡ None }
-    requires reach { (a : ℕ) → at ≤ a → a < at + length bytes.now → is_reached bounce.old shared.old a ≡ true }
+    requires reach { (a : ℕ) → at ≤ a → a < at + length bytes.now →
+        is_reached bounce.old shared.old a ≡ true }
     ensures kept { Keeps bounce.old.frames bounce.new.frames pool.old pool.new }
     ensures shared_kept { Keeps shared.old.frames shared.new.frames store.old store.new }
     ensures bytes { (x : Place) → value bounce.new pool.new x

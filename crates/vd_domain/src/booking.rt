@@ -40,14 +40,26 @@ pub fn book(
         (λ b. Some b.slot ≡ place_of (taken_of low.old) (pages_of want.len) low.old.first low.old.«end»)
         (λ e. e ≡ MapError.NoSpace → None ≡ place_of (taken_of low.old) (pages_of want.len) low.old.first low.old.«end») }
     ensures full { result ≢ Err MapError.Empty }
-    ensures taken { IfOk result (λ b. (taken_at low.old b.slot ≡ 0) × ((q : ℕ) → taken_at low.new q ≡ (if q == b.slot then pages_of want.len else taken_at low.old q))) }
-    ensures space { IfOk result (λ b. low.new ≡ record low.old { counts = slice_set low.old.counts b.slot (pages_of want.len) }) }
-    ensures within { IfOk result (λ b. (low.old.first ≤ b.slot) × (b.slot + pages_of want.len ≤ low.old.«end»)) }
+    ensures taken { IfOk result
+        (λ b. (taken_at low.old b.slot ≡ 0)
+        × ((q : ℕ) → taken_at low.new q
+        ≡ (if q == b.slot then pages_of want.len else taken_at low.old q))) }
+    ensures space { IfOk result
+        (λ b. low.new ≡ record low.old {
+          counts = slice_set low.old.counts b.slot
+              (pages_of want.len);
+        }) }
+    ensures within { IfOk result
+        (λ b. (low.old.first ≤ b.slot) × (b.slot + pages_of want.len ≤ low.old.«end»)) }
     ensures ends { (low.new.first ≡ low.old.first) × (low.new.«end» ≡ low.old.«end») }
     ensures numbered { IfOk result (λ b. (b.number ≡ mappings.old.made)
         × (mappings.new ≡ record { entries = mappings.old.entries ++ (b.number, record { slot = b.slot; want = want }) ∷ []; made = b.number + 1 })) }
-    ensures pages { IfOk result (λ b. (page : ℕ) → is_within b.pages.first b.pages.count page ≡ meets_slots per_page page b.slot (pages_of want.len)) }
-    ensures inside { IfOk result (λ b. (n : ℕ) → b.slot + pages_of want.len ≤ per_page * n → b.pages.first + b.pages.count ≤ n) }
+    ensures pages { IfOk result
+        (λ b. (page : ℕ) → is_within b.pages.first b.pages.count page
+        ≡ meets_slots per_page page b.slot (pages_of want.len)) }
+    ensures inside { IfOk result
+        (λ b. (n : ℕ) → b.slot + pages_of want.len ≤ per_page * n →
+        b.pages.first + b.pages.count ≤ n) }
     ensures spare { IfOk result (λ b. b.pages.count ≤ pool.new.spare) }
     ensures grows { Grows pool.old pool.new }
     ensures err { OnErr result ((low.new ≡ low.old) × (mappings.new ≡ mappings.old)) }

@@ -102,7 +102,9 @@ impl Domain {
         requires low { 2 * per_page ≤ bounce_slots }
         requires order { bounce_slots < iova_slots }
         requires small { iova_slots ≤ 65536 }
-        ensures stands { IfOk result (λ d. (x : Setting) (m : PoolMemory) → x.bounce ≡ bounce_slots → x.iova ≡ iova_slots → x.per_page ≡ per_page → Stands x [] d m) }
+        ensures stands { IfOk result
+            (λ d. (x : Setting) (m : PoolMemory) → x.bounce ≡ bounce_slots → x.iova ≡ iova_slots →
+            x.per_page ≡ per_page → Stands x [] d m) }
         ensures holds { IfOk result (λ d. (m : PoolMemory) → Holds d.bounce.frames m) }
         ensures none { IfOk result (λ d. (p : ℕ) → frame_of d.bounce.frames p ≡ None) }
         ensures size { IfOk result (λ d. d.bounce.per_page ≡ per_page) }
@@ -184,7 +186,8 @@ impl Domain {
 
     /// Ends the bounce region. Pages and mappings stay.
     pub fn reset_bounce(&mut self)
-        ensures ok { (x : Setting) (acts : List Act) (m : PoolMemory) → Stands x acts self.old m → Stands x (State Cleared ∷ acts) self.new m }
+        ensures ok { (x : Setting) (acts : List Act) (m : PoolMemory) → Stands x acts self.old m →
+            Stands x (State Cleared ∷ acts) self.new m }
         ensures same { self.new ≡ record self.old { is_shown = false } }
     {
         self.is_shown = false;

@@ -14,8 +14,6 @@ mod numbered;
 mod pages;
 mod remaining;
 mod streaming;
-#[cfg(test)]
-mod tests;
 mod uses;
 
 pub use domain::{AREA_START, Domain, NotLive, SyncError};

@@ -90,7 +90,10 @@ impl<T: Copy + Drop> Numbered<T> {
 
     /// Takes the value of this number away.
     pub fn remove(&mut self, number: u64)
-        ensures { self.new ≡ record self.old { entries = filter (λ e. not (e.0 == number)) self.old.entries } }
+        ensures { self.new ≡ record self.old {
+          entries = filter
+              (λ e. not (e.0 == number)) self.old.entries;
+        } }
     {
         take_out(&mut self.entries, number);
     }
@@ -98,8 +101,14 @@ impl<T: Copy + Drop> Numbered<T> {
     /// Takes the value that was added last away, as if it had not been added.
     pub fn undo(&mut self)
         requires { 0 < self.old.made }
-        ensures rest { self.new ≡ record { entries = filter (λ e. not (e.0 == self.old.made - 1)) self.old.entries; made = self.old.made - 1 } }
-        ensures last { (es : List (ℕ × T)) (value : T) → self.old.entries ≡ es ++ (self.old.made - 1, value) ∷ [] → self.new ≡ record { entries = es; made = self.old.made - 1 } }
+        ensures rest { self.new ≡ record {
+          entries = filter
+              (λ e. not (e.0 == self.old.made - 1)) self.old.entries;
+          made = self.old.made - 1;
+        } }
+        ensures last { (es : List (ℕ × T)) (value : T) →
+            self.old.entries ≡ es ++ (self.old.made - 1, value) ∷ [] →
+            self.new ≡ record { entries = es; made = self.old.made - 1 } }
     {
         let number = self.made - 1;
         take_out(&mut self.entries, number);

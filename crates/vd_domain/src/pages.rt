@@ -26,7 +26,8 @@ pub fn pages_met(slot: u64, slots: u64, per_page: u64) -> Pages
     requires some { 0 < slots }
     requires size { 0 < per_page }
     requires end { slot + slots ≤ 2 ^ 62 }
-    ensures met { (page : ℕ) → is_within result.first result.count page ≡ meets_slots per_page page slot slots }
+    ensures met { (page : ℕ) →
+        is_within result.first result.count page ≡ meets_slots per_page page slot slots }
     ensures some { 0 < result.count }
     ensures inside { (pages : ℕ) → slot + slots ≤ per_page * pages → result.first + result.count ≤ pages }
 {
@@ -63,7 +64,8 @@ pub fn show(map: &mut BounceMap, pool: &mut Pool, pages: Pages, dir: Dir, iova: 
     requires range { pages.first + pages.count ≤ length map.old.frames }
     requires small { length map.old.frames < 2 ^ 32 }
     requires spare { pages.count ≤ pool.old.spare }
-    requires inside { (a : ℕ) → iova ≤ a → a < iova + length bytes.now → is_within pages.first pages.count (a / page_size map.old) ≡ true }
+    requires inside { (a : ℕ) → iova ≤ a → a < iova + length bytes.now →
+        is_within pages.first pages.count (a / page_size map.old) ≡ true }
     ensures kept { Keeps map.old.frames map.new.frames pool.old pool.new }
     ensures bytes { (x : Place) → value map.new pool.new x
         ≡ (if is_to_device dir then over (home_place map.old iova) bytes.now x (value map.old pool.old x) else value map.old pool.old x) }

@@ -40,7 +40,10 @@ impl Uses {
     pub fn enter(&mut self, pages: Pages)
         requires range { pages.first + pages.count ≤ length self.old }
         requires few { (p : ℕ) → slice_index self.old p < 2 ^ 63 }
-        ensures counts { (p : ℕ) → slice_index self.new p ≡ (if is_within pages.first pages.count p then slice_index self.old p + 1 else slice_index self.old p) }
+        ensures counts { (p : ℕ) →
+            slice_index self.new p
+            ≡ (if is_within pages.first pages.count p
+            then slice_index self.old p + 1 else slice_index self.old p) }
         ensures len { length self.new ≡ length self.old }
     {
         let _ = &self.counts;
@@ -54,7 +57,10 @@ impl Uses {
     pub fn leave(&mut self, pages: Pages)
         requires range { pages.first + pages.count ≤ length self.old }
         requires some { (p : ℕ) → is_within pages.first pages.count p ≡ true → 0 < slice_index self.old p }
-        ensures counts { (p : ℕ) → slice_index self.new p ≡ (if is_within pages.first pages.count p then slice_index self.old p - 1 else slice_index self.old p) }
+        ensures counts { (p : ℕ) →
+            slice_index self.new p
+            ≡ (if is_within pages.first pages.count p
+            then slice_index self.old p - 1 else slice_index self.old p) }
         ensures len { length self.new ≡ length self.old }
     {
         let _ = &self.counts;

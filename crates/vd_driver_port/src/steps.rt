@@ -50,7 +50,8 @@ pub fn map_all(
     requires text { length bytes.now ≡ bytes_of wants.now }
     requires room { memory.old.domain.maps + length wants.now < 2 ^ 62 }
     requires inside { All (IsInBuffer memory.old.buffers) wants.now }
-    requires theirs { (g : ℕ) (acts : List Act) → kept.Stands g acts memory.old.buffers → AreOf g acts wants.now bytes.now }
+    requires theirs { (g : ℕ) (acts : List Act) → kept.Stands g acts memory.old.buffers →
+        AreOf g acts wants.now bytes.now }
     ensures mapped { (x : Setting) (acts : List Act) (ms : List Streaming) → Stands x acts memory.old pool.old →
         placed_mappings x (taken_slots acts) (maps acts) wants.now ≡ Some ms → OnOk result (Stands x (map_acts ms ++ acts) memory.new pool.new) }
     ensures placed { (x : Setting) (acts : List Act) → Stands x acts memory.old pool.old → IfOk result (λ number.
@@ -59,7 +60,8 @@ pub fn map_all(
     ensures full { (x : Setting) (acts : List Act) → Stands x acts memory.old pool.old → result ≡ Err NoSpace →
         placed_mappings x (taken_slots acts) (maps acts) wants.now ≡ None }
     ensures empty { result ≡ Err Empty → list_any (λ w. w.len == 0) wants.now ≡ true }
-    ensures stays { (x : Setting) (acts : List Act) → Stands x acts memory.old pool.old → OnErr result (Stands x acts memory.new pool.new) }
+    ensures stays { (x : Setting) (acts : List Act) → Stands x acts memory.old pool.old →
+        OnErr result (Stands x acts memory.new pool.new) }
     ensures rest { KeepsMemory memory.old memory.new pool.old pool.new }
     ensures maps { memory.new.domain.maps ≤ memory.old.domain.maps + length wants.now }
     ensures told { ring_map memory.new.domain ≡ ring_map memory.old.domain }
@@ -122,7 +124,8 @@ fn end_held(memory: &mut Memory, pool: &mut Pool, number: u64, want: &Want)
     requires held { IsHeld memory.old pool.old }
     requires live { IfSome (mapping_of memory.old.domain number) (λ m. m.want ≡ want.now) }
     requires there { is_some (place_of memory.old.buffers want.now.buffer) ≡ true }
-    requires range { (bytes : List ℕ) → place_of memory.old.buffers want.now.buffer ≡ Some bytes → want.now.offset + want.now.len ≤ length bytes }
+    requires range { (bytes : List ℕ) → place_of memory.old.buffers want.now.buffer ≡ Some bytes →
+        want.now.offset + want.now.len ≤ length bytes }
     ensures ended { (x : Setting) (acts : List Act) (m : Streaming) → mapping_of memory.old.domain number ≡ Some m → Stands x acts memory.old pool.old
         → Stands x (Driver (Unmapped m) ∷ acts) memory.new pool.new }
     ensures rest { KeepsMemory memory.old memory.new pool.old pool.new }

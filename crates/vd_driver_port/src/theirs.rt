@@ -14,7 +14,8 @@ use vd_model::Want;
 pub fn are_theirs(buffers: &Buffers, wants: &[Want], bytes: &[u8]) -> bool
     requires { length bytes.now ≡ bytes_of wants.now }
     ensures inside { result ≡ true → All (IsInBuffer buffers.now) wants.now }
-    ensures bytes { result ≡ true → (g : ℕ) (acts : List Act) → kept.Stands g acts buffers.now → AreOf g acts wants.now bytes.now }
+    ensures bytes { result ≡ true → (g : ℕ) (acts : List Act) → kept.Stands g acts buffers.now →
+        AreOf g acts wants.now bytes.now }
 {
     let (want, wants) = match wants.split_first() {
         Some(parts) => parts,

@@ -24,7 +24,7 @@ use Rattle.vd_model.specs.ControlTurns.{Outcome, create_outcome, tick_outcome, r
 use Rattle.vd_engine.specs.declared.devices.Named.{Named}
 use Rattle.vd_engine.specs.declared.windows.Given.{Given as Holding}
 use Rattle.vd_engine.specs.declared.engine.Engine.{Engine}
-use Rattle.vd_engine.specs.Windows.{given_window, has_window, meets}
+use Rattle.vd_engine.specs.Windows.{given_window, has_window, shares_sector}
 use Rattle.vd_engine.specs.Machine.{NoneIs, FirstIs, DeviceIs, AllStand, StandsAt}
 use Rattle.vd_engine.proofs.Deeds.{found_stands}
 
@@ -120,10 +120,10 @@ module _ (x : Setting) (done : List Deed) (e : Engine) (s : StandsAt x done e.as
           image_beyond f = image_by true false false true (is_given first count done) here (has false free) not_empty (past true f) refl
 
           module _ (within : nat_lt e.sectors (first + count) ≡ false) where
-            pub image_met : list_any (meets first count) e.windows.items ≡ true → image_outcome x done name first count ≡ refusal_outcome Busy
+            pub image_met : list_any (shares_sector first count) e.windows.items ≡ true → image_outcome x done name first count ≡ refusal_outcome Busy
             image_met f = image_by true false false false true here (has false free) not_empty (past false within) (sym (s.windows.taken first count) ∙ f)
 
-            pub image_free : list_any (meets first count) e.windows.items ≡ false
+            pub image_free : list_any (shares_sector first count) e.windows.items ≡ false
                 → image_outcome x done name first count ≡ done_outcome [] (Given name (record { first = first; count = count }) ∷ [])
             image_free f = image_by true false false false false here (has false free) not_empty (past false within) (sym (s.windows.taken first count) ∙ f)
 

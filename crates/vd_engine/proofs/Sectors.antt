@@ -9,7 +9,7 @@ use Rattle.vd_model.specs.Deeds.{Deed, On, window_of, is_given}
 use Rattle.vd_model.specs.Deeds.{Given as Has}
 use Rattle.vd_instance.specs.Image.{window_or_none}
 use Rattle.vd_engine.specs.declared.windows.Given.{Given}
-use Rattle.vd_engine.specs.Windows.{HasWindows, has_window, given_window, meets}
+use Rattle.vd_engine.specs.Windows.{HasWindows, has_window, given_window, shares_sector}
 use Rattle.vd_engine.proofs.Names.{find_push_hit, find_push_miss, found_at, pushed_at, named_is, all_at, all_from}
 
 -- ---- what leaves them
@@ -69,9 +69,9 @@ module _ (done : List Deed) (sectors : ℕ) (gs : List Given) (h : HasWindows do
   pub windows_more : HasWindows (Has name w ∷ done) sectors (gs ++ new ∷ [])
   windows_more = record {
     window = λ n. window n (bytes_eq n name) refl;
-    taken = λ first count. any_push (meets first count) gs new
-        ∙ ap (λ (v : Window). meets first count (record new { window = v }) || list_any (meets first count) gs) with
-        ∙ ap (λ b. meets first count (record new { window = w }) || b) (h.taken first count);
+    taken = λ first count. any_push (shares_sector first count) gs new
+        ∙ ap (λ (v : Window). shares_sector first count (record new { window = v }) || list_any (shares_sector first count) gs) with
+        ∙ ap (λ b. shares_sector first count (record new { window = w }) || b) (h.taken first count);
     inside = all_from (λ (j : Given). j.window.first + j.window.count ≤ sectors) (gs ++ new ∷ []) (λ j z at. elim (pushed_at gs new j z at) [
       | inl here ↦ subst (λ (k : Given). k.window.first + k.window.count ≤ sectors) (sym here.1) (subst (λ (v : Window). v.first + v.count ≤ sectors) (sym with) inside)
       | inr other ↦ all_at (λ (k : Given). k.window.first + k.window.count ≤ sectors) gs j z h.inside other.1

@@ -14,11 +14,11 @@ abbrev pub given_window : Given → Window
 given_window g = g.window
 
 -- so many sectors from the first on, and those that were given, share one
-abbrev pub meets : ℕ → ℕ → Given → Bool
-meets first count g = nat_lt first (g.window.first + g.window.count) && nat_lt g.window.first (first + count)
+abbrev pub shares_sector : ℕ → ℕ → Given → Bool
+shares_sector first count g = nat_lt first (g.window.first + g.window.count) && nat_lt g.window.first (first + count)
 
 -- the sectors that names were given, all of them inside the image
 pub record HasWindows (done : List Deed) (sectors : ℕ) (gs : List Given) : Type 0 where
   pub window : (name : List ℕ) → option_map given_window (find (has_window name) gs) ≡ window_of name done
-  pub taken : (first count : ℕ) → list_any (meets first count) gs ≡ is_given first count done
+  pub taken : (first count : ℕ) → list_any (shares_sector first count) gs ≡ is_given first count done
   pub inside : All (λ g. g.window.first + g.window.count ≤ sectors) gs

@@ -89,7 +89,8 @@ impl Engine {
         ensures line { Serves (λ said. T.heard told.old said told.new)
             (λ x done failed. outcome x done step.now failed) (is_execution step.now)
             self.old self.new (I.size disk.old) (I.content disk.old) (I.content disk.new) result }
-        ensures only_execute { is_execution step.now ≡ false → (disk.new ≡ disk.old) × IfOk result (λ failed. failed ≡ false) }
+        ensures only_execute { is_execution step.now ≡ false →
+            (disk.new ≡ disk.old) × IfOk result (λ failed. failed ≡ false) }
         ensures kept { OnErr result (disk.new ≡ disk.old) }
         ensures size { I.size disk.new ≡ I.size disk.old }
         ensures later { I.faults disk.old ≤ I.faults disk.new }
@@ -126,14 +127,16 @@ impl Engine {
             IfOk result (λ failed. Goes x (λ said. T.heard told.old said told.new) h step.now failed self.new) }
         ensures image { (x : Setting) (h : History) → StandsFor x h self.old → IsImage x (deeds_of x h) (I.size disk.old) (I.content disk.old) →
             IfOk result (λ failed. IsImage x (deeds_of x (record { step = step.now; failed = failed } ∷ h)) (I.size disk.new) (I.content disk.new)) }
-        ensures err { (x : Setting) (h : History) → StandsFor x h self.old → OnErr result (StandsFor x h self.new) }
+        ensures err { (x : Setting) (h : History) → StandsFor x h self.old →
+            OnErr result (StandsFor x h self.new) }
         ensures reached { IsReached self.new }
         ensures asked { OnOk result (self.new.asked ≡ self.old.asked + 1) }
         ensures still_asked { OnErr result (self.new.asked ≡ self.old.asked) }
         ensures sectors { self.new.sectors ≡ self.old.sectors }
 
         // Only an execute touches the image.
-        ensures only_execute { is_execution step.now ≡ false → (disk.new ≡ disk.old) × IfOk result (λ failed. failed ≡ false) }
+        ensures only_execute { is_execution step.now ≡ false →
+            (disk.new ≡ disk.old) × IfOk result (λ failed. failed ≡ false) }
         ensures kept { OnErr result (disk.new ≡ disk.old) }
         ensures size { I.size disk.new ≡ I.size disk.old }
         ensures later { I.faults disk.old ≤ I.faults disk.new }
@@ -168,18 +171,21 @@ impl Engine {
             IfOk result (λ s. Goes x (λ said. s.answer ≡ said) h step.now s.disk_failed self.new) }
         ensures image { (x : Setting) (h : History) → StandsFor x h self.old → IsImage x (deeds_of x h) (I.size disk.old) (I.content disk.old) →
             IfOk result (λ s. IsImage x (deeds_of x (record { step = step.now; failed = s.disk_failed } ∷ h)) (I.size disk.new) (I.content disk.new)) }
-        ensures err { (x : Setting) (h : History) → StandsFor x h self.old → OnErr result (StandsFor x h self.new) }
+        ensures err { (x : Setting) (h : History) → StandsFor x h self.old →
+            OnErr result (StandsFor x h self.new) }
         ensures reached { IsReached self.new }
         ensures asked { OnOk result (self.new.asked ≡ self.old.asked + 1) }
         ensures still_asked { OnErr result (self.new.asked ≡ self.old.asked) }
         ensures sectors { self.new.sectors ≡ self.old.sectors }
 
         // Only an execute touches the image, and without memory nothing does.
-        ensures only_execute { is_execution step.now ≡ false → (disk.new ≡ disk.old) × IfOk result (λ s. s.disk_failed ≡ false) }
+        ensures only_execute { is_execution step.now ≡ false →
+            (disk.new ≡ disk.old) × IfOk result (λ s. s.disk_failed ≡ false) }
         ensures kept { OnErr result (disk.new ≡ disk.old) }
         ensures size { I.size disk.new ≡ I.size disk.old }
         ensures later { I.faults disk.old ≤ I.faults disk.new }
-        ensures cause { IfOk result (λ s. s.disk_failed ≡ true → Rose (I.faults disk.old) (I.faults disk.new)) }
+        ensures cause { IfOk result
+            (λ s. s.disk_failed ≡ true → Rose (I.faults disk.old) (I.faults disk.new)) }
         ensures flushes { I.flushes disk.old ≤ I.flushes disk.new }
     {
         let mut kept = Kept::new(self.alloc)?;

@@ -67,7 +67,8 @@ impl Engine {
         ensures line { Serves (λ said. T.heard told.old said told.new)
             (λ x done failed. device_outcome name.now (device_queue_turn x name.now (device_view x name.now done) failed step.now)) (is_execute step.now)
             self.old self.new (I.size disk.old) (I.content disk.old) (I.content disk.new) result }
-        ensures only_execute { is_execute step.now ≡ false → (disk.new ≡ disk.old) × IfOk result (λ failed. failed ≡ false) }
+        ensures only_execute { is_execute step.now ≡ false →
+            (disk.new ≡ disk.old) × IfOk result (λ failed. failed ≡ false) }
         ensures kept { OnErr result (disk.new ≡ disk.old) }
         ensures size { I.size disk.new ≡ I.size disk.old }
         ensures later { I.faults disk.old ≤ I.faults disk.new }

@@ -4,7 +4,7 @@ ghost use Rattle.std.specs.Prelude.{◌≡◌, ◌<◌, ◌+◌, ◌&&◌, find,
 ghost use Rattle.std.specs.List.{list_any};
 ghost use Rattle.std.specs.Option.{option_map};
 ghost use Rattle.vd_instance.specs.Image.{window_or_none};
-ghost use Rattle.vd_engine.specs.Windows.{given_window, has_window, meets};
+ghost use Rattle.vd_engine.specs.Windows.{given_window, has_window, shares_sector};
 
 use vd_model::Window;
 use vd_num::Name;
@@ -48,7 +48,7 @@ pub(crate) fn is_beyond(first: u64, count: u64, sectors: u64) -> bool
 /// Whether these sectors and those of a name share one.
 fn shares(given: &Given, first: u64, count: u64) -> bool
     requires { 0 < count }
-    ensures { result ≡ meets first count given.now }
+    ensures { result ≡ shares_sector first count given.now }
 {
     if first < given.window.first {
         given.window.first - first < count
@@ -60,7 +60,7 @@ fn shares(given: &Given, first: u64, count: u64) -> bool
 /// Whether some name has one of these sectors.
 pub(crate) fn is_taken(windows: &[Given], first: u64, count: u64) -> bool
     requires { 0 < count }
-    ensures { result ≡ list_any (meets first count) windows.now }
+    ensures { result ≡ list_any (shares_sector first count) windows.now }
 {
     windows.iter().any(|given| shares(given, first, count))
 }

@@ -65,7 +65,8 @@ impl Guest {
     /// The bytes of the memory from `offset` on.
     pub fn peek(&self, offset: u64, len: u64) -> &[u8]
         requires { offset + len ≤ length self.now.memory }
-        ensures { (f : ℕ → ℕ) → ((o : ℕ) → slice_index self.now.memory o ≡ f o) → result.now ≡ each_from f offset len }
+        ensures { (f : ℕ → ℕ) → ((o : ℕ) → slice_index self.now.memory o ≡ f o) →
+            result.now ≡ each_from f offset len }
     {
         bytes_of(&self.memory, offset as usize, len as usize)
     }
@@ -73,7 +74,9 @@ impl Guest {
     /// Writes bytes of the memory.
     pub fn poke(&mut self, offset: u64, bytes: &[u8])
         requires { offset + length bytes.now ≤ length self.old.memory }
-        ensures bytes { (o : ℕ) → slice_index self.new.memory o ≡ unwrap_or (byte_in bytes.now offset o) (slice_index self.old.memory o) }
+        ensures bytes { (o : ℕ) →
+            slice_index self.new.memory o
+            ≡ unwrap_or (byte_in bytes.now offset o) (slice_index self.old.memory o) }
         ensures size { length self.new.memory ≡ length self.old.memory }
         ensures regions { self.new.regions ≡ self.old.regions }
     {
@@ -107,8 +110,10 @@ impl Guest {
 
     /// Stores all bytes at the addresses from `at` on, or none and tells what denies the access.
     pub fn store(&mut self, at: u64, bytes: &[u8]) -> Option<Denied>
-        ensures told { (given : List Span) → StandsFor given self.old.regions → result ≡ first_denial given Write at (length bytes.now) }
-        ensures stored { (given : List Span) → StandsFor given self.old.regions → Stores given at bytes.now self.old.memory self.new.memory }
+        ensures told { (given : List Span) → StandsFor given self.old.regions →
+            result ≡ first_denial given Write at (length bytes.now) }
+        ensures stored { (given : List Span) → StandsFor given self.old.regions →
+            Stores given at bytes.now self.old.memory self.new.memory }
         ensures denied { IfSome result (λ why. self.new.memory ≡ self.old.memory) }
         ensures size { length self.new.memory ≡ length self.old.memory }
         ensures regions { self.new.regions ≡ self.old.regions }

@@ -71,8 +71,10 @@ pub fn first_part(
 ) -> Result<Part, Denied>
     requires some { 0 < left }
     requires within { AreWithin size regions.now }
-    ensures part { (given : List Span) → StandsFor given regions.now → IsFirstPart given access at left result }
-    ensures inside { IfOk result (λ part. (0 < part.len) × (part.len ≤ left) × (part.offset + part.len ≤ size)) }
+    ensures part { (given : List Span) → StandsFor given regions.now →
+        IsFirstPart given access at left result }
+    ensures inside { IfOk result
+        (λ part. (0 < part.len) × (part.len ≤ left) × (part.offset + part.len ≤ size)) }
 {
     let Some(region) = holder(regions, size, at) else {
         return Err(Denied::Bus { at });
@@ -160,7 +162,8 @@ fn overwrite(memory: &mut [u8], offset: usize, bytes: &[u8])
 /// Writes bytes from `offset` on.
 pub fn write(memory: &mut [u8], offset: usize, bytes: &[u8])
     requires { offset + length bytes.now ≤ length memory.old }
-    ensures { (o : ℕ) → slice_index memory.new o ≡ unwrap_or (byte_in bytes.now offset o) (slice_index memory.old o) }
+    ensures { (o : ℕ) → slice_index memory.new o
+        ≡ unwrap_or (byte_in bytes.now offset o) (slice_index memory.old o) }
 {
     overwrite(memory, offset, bytes);
 }
@@ -168,7 +171,8 @@ pub fn write(memory: &mut [u8], offset: usize, bytes: &[u8])
 /// Stores bytes at the addresses from `at` on, an access that nothing denies.
 pub fn store(regions: &Regions, memory: &mut [u8], at: u64, bytes: &[u8])
     requires { AreWithin (length memory.old) regions.now }
-    ensures { (given : List Span) → StandsFor given regions.now → Stores given at bytes.now memory.old memory.new }
+    ensures { (given : List Span) → StandsFor given regions.now →
+        Stores given at bytes.now memory.old memory.new }
 {
     let mut next = at;
     let mut rest = bytes;

@@ -29,7 +29,8 @@ impl Instance {
 
     /// What is known of a queue, and which features the driver accepted.
     fn known_driver(&self, queue: u32) -> KnownDriver
-        ensures { (x : Setting) (made : Creation) (acts : List Act) (m : PoolMemory) → Stands x made acts self.now m → IsKnown made acts queue result }
+        ensures { (x : Setting) (made : Creation) (acts : List Act) (m : PoolMemory) →
+            Stands x made acts self.now m → IsKnown made acts queue result }
     {
         KnownDriver {
             info: known(&self.device.path.state, queue),
@@ -127,7 +128,8 @@ impl Instance {
 
     /// Whether a pending request made the buffer that a request is to map.
     fn wants_made_buffer(&self, form: &SubmitForm) -> bool
-        ensures { (x : Setting) (made : Creation) (acts : List Act) (m : PoolMemory) → Stands x made acts self.now m → result ≡ wants_made_buffer made acts form.now }
+        ensures { (x : Setting) (made : Creation) (acts : List Act) (m : PoolMemory) →
+            Stands x made acts self.now m → result ≡ wants_made_buffer made acts form.now }
     {
         match form {
             SubmitForm::Read { buffer, .. } => owns_buffer(&self.drivers, *buffer),

@@ -41,7 +41,8 @@ impl Instance {
     /// Whether a line of the driver on a device on the bus is on what belongs to a queue: the region of a ring, and a buffer or
     /// a mapping of a pending request.
     fn is_kept(&self, step: &DriverStep<'_>) -> bool
-        ensures { (x : Setting) (made : Creation) (acts : List Act) (m : PoolMemory) → Stands x made acts self.now m → result ≡ is_kept made acts step.now }
+        ensures { (x : Setting) (made : Creation) (acts : List Act) (m : PoolMemory) →
+            Stands x made acts self.now m → result ≡ is_kept made acts step.now }
     {
         match step {
             DriverStep::Map { buffer, .. } => owns_buffer(&self.drivers, *buffer),
@@ -53,7 +54,8 @@ impl Instance {
 
     /// The same of any line on the device.
     fn takes_kept(&self, step: &DevStep<'_>) -> bool
-        ensures { (x : Setting) (made : Creation) (acts : List Act) (m : PoolMemory) → Stands x made acts self.now m → result ≡ takes_kept made acts step.now }
+        ensures { (x : Setting) (made : Creation) (acts : List Act) (m : PoolMemory) →
+            Stands x made acts self.now m → result ≡ takes_kept made acts step.now }
     {
         match step {
             DevStep::Driver(line) => self.device.path.attached && self.is_kept(line),
@@ -155,7 +157,8 @@ impl Instance {
             → MatchResult result (λ _. StandsForMore x made acts self.new pool.new) (λ _. Stands x made acts self.new pool.new) }
 
         // Only an execute touches the image.
-        ensures only_execute { is_execute line.entry.step.now ≡ false → (disk.new ≡ disk.old) × IfOk result (λ failed. failed ≡ false) }
+        ensures only_execute { is_execute line.entry.step.now ≡ false →
+            (disk.new ≡ disk.old) × IfOk result (λ failed. failed ≡ false) }
         ensures kept { OnErr result (disk.new ≡ disk.old) }
         ensures size { I.size disk.new ≡ I.size disk.old }
         ensures later { I.faults disk.old ≤ I.faults disk.new }

@@ -24,7 +24,8 @@ impl Instance {
 
     /// What is known of a queue, and of the tables of its chains.
     fn chain_at(&self, queue: u32, head: u16) -> ChainAt
-        ensures known { (x : Setting) (made : Creation) (acts : List Act) (m : PoolMemory) → Stands x made acts self.now m → IsKnown made acts queue result.queue result.indirect }
+        ensures known { (x : Setting) (made : Creation) (acts : List Act) (m : PoolMemory) →
+            Stands x made acts self.now m → IsKnown made acts queue result.queue result.indirect }
         ensures head { result.head ≡ head }
     {
         ChainAt {

@@ -91,7 +91,8 @@ impl<F: RandomAccess + Drop> FileImage<F> {
     /// sector isn't used. It fails only where the file's size can't be had.
     pub fn new(file: F) -> Result<FileImage<F>, Failed>
         ensures file { IfOk result (λ i. i.file ≡ file) }
-        ensures sectors { IfOk result (λ i. (size : ℕ) × HasSize (F.bytes file) size × (i.sectors ≡ size / 512)) }
+        ensures sectors { IfOk result
+            (λ i. (size : ℕ) × HasSize (F.bytes file) size × (i.sectors ≡ size / 512)) }
         ensures flushes { IfOk result (λ i. i.flushes ≡ 0) }
         ensures faults { IfOk result (λ i. i.faults ≡ 0) }
     {
@@ -161,7 +162,8 @@ impl<F: RandomAccess + Drop> Image for FileImage<F> {
         ensures cause { HasCause self.old.faults self.new.faults result }
 
         // It writes the file's own sectors, and counts a fault exactly where it fails.
-        ensures own { OnOk result (IsWritten sector bytes.now (F.bytes self.old.file) (F.bytes self.new.file)) }
+        ensures own { OnOk result (IsWritten sector bytes.now (F.bytes self.old.file)
+            (F.bytes self.new.file)) }
         ensures sound { OnOk result (self.new.faults ≡ self.old.faults) }
         ensures failed { OnErr result (self.new.faults ≡ min (self.old.faults + 1) (2 ^ 64 - 1)) }
     {

@@ -146,7 +146,8 @@ impl Image for MemImage {
 
     fn write_at(&mut self, sector: u64, bytes: &[u8]) -> Result<(), Failed>
         requires { IsSpan self.old.sectors sector (length bytes.now) }
-        ensures written { OnOk result (IsWritten sector bytes.now (Some self.old.bytes) (Some self.new.bytes)) }
+        ensures written { OnOk result (IsWritten sector bytes.now (Some self.old.bytes)
+            (Some self.new.bytes)) }
         ensures kept { OnErr result (Some self.new.bytes ≡ Some self.old.bytes) }
         ensures size { self.new.sectors ≡ self.old.sectors }
         ensures flushes { self.new.flushes ≡ self.old.flushes }

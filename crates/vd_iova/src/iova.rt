@@ -70,8 +70,10 @@ impl Iova {
         ensures place { MatchResult result
             (λ s. Some s ≡ place_of (taken_of self.old) pages self.old.first self.old.end)
             (λ _. None ≡ place_of (taken_of self.old) pages self.old.first self.old.end) }
-        ensures ok { IfOk result (λ s. self.new ≡ record self.old { counts = slice_set self.old.counts s pages }) }
-        ensures taken { IfOk result (λ s. (q : ℕ) → taken_at self.new q ≡ (if q == s then pages else taken_at self.old q)) }
+        ensures ok { IfOk result
+            (λ s. self.new ≡ record self.old { counts = slice_set self.old.counts s pages }) }
+        ensures taken { IfOk result
+            (λ s. (q : ℕ) → taken_at self.new q ≡ (if q == s then pages else taken_at self.old q)) }
         ensures within { IfOk result (λ s. (self.old.first ≤ s) × (s + pages ≤ self.old.end)) }
         ensures fresh { IfOk result (λ s. taken_at self.old s ≡ 0) }
         ensures err { OnErr result (self.new ≡ self.old) }
@@ -88,8 +90,10 @@ impl Iova {
         ensures place { MatchResult result
             (λ s. Some s ≡ place_of (taken_of self.old) pages self.old.first self.old.end)
             (λ _. None ≡ place_of (taken_of self.old) pages self.old.first self.old.end) }
-        ensures ok { IfOk result (λ s. self.new ≡ record self.old { counts = slice_set self.old.counts s pages }) }
-        ensures taken { IfOk result (λ s. (q : ℕ) → taken_at self.new q ≡ (if q == s then pages else taken_at self.old q)) }
+        ensures ok { IfOk result
+            (λ s. self.new ≡ record self.old { counts = slice_set self.old.counts s pages }) }
+        ensures taken { IfOk result
+            (λ s. (q : ℕ) → taken_at self.new q ≡ (if q == s then pages else taken_at self.old q)) }
         ensures within { IfOk result (λ s. (self.old.first ≤ s) × (s + pages ≤ self.old.end)) }
         ensures fresh { IfOk result (λ s. taken_at self.old s ≡ 0) }
         ensures err { OnErr result (self.new ≡ self.old) }
@@ -104,14 +108,18 @@ impl Iova {
         ensures place { MatchResult result
             (λ s. Some s ≡ place_of (taken_of self.old) pages self.old.first self.old.end)
             (λ _. None ≡ place_of (taken_of self.old) pages self.old.first self.old.end) }
-        ensures ok { IfOk result (λ s. self.new ≡ record self.old { counts = slice_set self.old.counts s pages }) }
-        ensures taken { IfOk result (λ s. (q : ℕ) → taken_at self.new q ≡ (if q == s then pages else taken_at self.old q)) }
+        ensures ok { IfOk result
+            (λ s. self.new ≡ record self.old { counts = slice_set self.old.counts s pages }) }
+        ensures taken { IfOk result
+            (λ s. (q : ℕ) → taken_at self.new q ≡ (if q == s then pages else taken_at self.old q)) }
         ensures within { IfOk result (λ s. (self.old.first ≤ s) × (s + pages ≤ self.old.end)) }
         ensures fresh { IfOk result (λ s. taken_at self.old s ≡ 0) }
         ensures err { OnErr result (self.new ≡ self.old) }
 
-        ensures cost { let n = self.old.end - self.old.first in steps.new ≤ steps.old + (n / 64 + n / 4096 + 4) }
-        ensures cost_of_one { let n = self.old.end - self.old.first in pages ≡ 1 → steps.new ≤ steps.old + (n / 4096 + 3) }
+        ensures cost { let n = self.old.end - self.old.first in steps.new ≤ steps.old +
+            (n / 64 + n / 4096 + 4) }
+        ensures cost_of_one { let n = self.old.end - self.old.first in pages ≡ 1 →
+            steps.new ≤ steps.old + (n / 4096 + 3) }
     {
         if pages > (self.end - self.first) as u64 {
             return Err(Full);

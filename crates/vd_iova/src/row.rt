@@ -49,7 +49,8 @@ pub fn unmark<L: Ledger>(words: &mut Words, start: usize, n: usize, steps: &mut 
 pub fn fill(words: &mut Words, at: usize, count: usize)
     requires fits { at + count ≤ length words.old }
     requires small { length words.old ≤ 1024 }
-    ensures bits { (p : ℕ) → bit words.new p ≡ (if is_within (64 * at) (64 * count) p then 1 else bit words.old p) }
+    ensures bits { (p : ℕ) →
+        bit words.new p ≡ (if is_within (64 * at) (64 * count) p then 1 else bit words.old p) }
     ensures len { length words.new ≡ length words.old }
 {
     for i in at..at + count {

@@ -33,11 +33,16 @@ pub fn instances_of_direct()
     ensures value_after_a_store { direct_byte (store_sample Both) 0 1 ≡ 9 }
     ensures not_known_after_a_store { is_marked (store_sample Both) (Known 0 1) ≡ false }
     ensures told_after_a_store { is_marked (store_sample Both) (Told (mapping_sample Both) 1) ≡ true }
-    ensures known_after_an_unmap { is_marked (Driver (Unmapped (mapping_sample Both)) ∷ store_sample Both) (Known 0 1) ≡ true }
+    ensures known_after_an_unmap { is_marked (Driver (Unmapped (mapping_sample Both)) ∷ store_sample
+        Both) (Known 0 1) ≡ true }
     ensures store_to_a_to { direct_byte (store_sample To) 0 1 ≡ 8 }
-    ensures highest { mapping_through two_maps_sample (Node (Daemon_put 0xe000 (replicate 0x1001 3 ++ 4 ∷ []))) 0 1 ≡ Some (mapping_sample Both) }
-    ensures lower { is_marked (Node (Daemon_put 0xe000 (replicate 0x1001 3 ++ 4 ∷ [])) ∷ two_maps_sample) (Told second_mapping 0) ≡ false }
+    ensures highest { mapping_through two_maps_sample (Node (Daemon_put 0xe000 (replicate 0x1001 3
+        ++ 4 ∷ []))) 0 1 ≡ Some (mapping_sample Both) }
+    ensures lower { is_marked (Node (Daemon_put 0xe000 (replicate 0x1001 3
+        ++ 4 ∷ [])) ∷ two_maps_sample) (Told second_mapping 0) ≡ false }
     ensures one_store { plain_store coherent_sample 0x1f000 ≡ 5 }
-    ensures loaded { reply (sample_setting 1) (map_history To) (Device v (line.Area (area.Load 0xf000 2))) false ≡ Done (Text (7 ∷ 8 ∷ []) ∷ []) }
-    ensures loaded_told { is_marked (acts_of (sample_setting 1) (map_history To) v) (Told (mapping_sample To) 1) ≡ true }
+    ensures loaded { reply (sample_setting 1) (map_history To)
+        (Device v (line.Area (area.Load 0xf000 2))) false ≡ Done (Text (7 ∷ 8 ∷ []) ∷ []) }
+    ensures loaded_told { is_marked (acts_of (sample_setting 1) (map_history To) v)
+        (Told (mapping_sample To) 1) ≡ true }
 {}

@@ -22,8 +22,11 @@ pub fn instances_of_memory()
     ensures sync_brings { ram 1 (Driver (Synced_cpu (mapping_sample Both)) ∷ store_sample Both) 0 1 ≡ 9 }
     ensures other_byte { ram 1 (Driver (Unmapped (mapping_sample Both)) ∷ store_sample Both) 0 0 ≡ 7 }
     ensures nothing_from_to { ram 1 (Driver (Unmapped (mapping_sample To)) ∷ store_sample To) 0 1 ≡ 8 }
-    ensures zeros_from_a_new_page { ram 1 (Driver (Unmapped (mapping_sample From)) ∷ map_sample From) 0 1 ≡ 0 }
+    ensures zeros_from_a_new_page { ram 1 (Driver (Unmapped (mapping_sample From)) ∷ map_sample
+        From) 0 1 ≡ 0 }
     ensures large_page { ram 16 (Driver (Unmapped (mapping_sample Both)) ∷ store_sample Both) 0 1 ≡ 9 }
-    ensures map_leaves_coherent { (shown_put 16 (Driver (Mapped (mapping_sample Both)) ∷ coherent_sample) 0x1f000).byte ≡ 5 }
-    ensures part_of_a_page_would_not { (shown_put 32 (Driver (Mapped (mapping_sample Both)) ∷ coherent_sample) 0x1f000).byte ≡ 0 }
+    ensures map_leaves_coherent { (shown_put 16 (Driver (Mapped (mapping_sample Both)) ∷
+        coherent_sample) 0x1f000).byte ≡ 5 }
+    ensures part_of_a_page_would_not { (shown_put 32
+        (Driver (Mapped (mapping_sample Both)) ∷ coherent_sample) 0x1f000).byte ≡ 0 }
 {}

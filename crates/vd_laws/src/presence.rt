@@ -8,5 +8,6 @@ ghost use Rattle.vd_laws.specs.Presence.{was_mapped};
 /// A page of bounce memory is present where a registration stands, and where the last act that
 /// decides it is a map.
 pub fn present_pages()
-    ensures { (g : ℕ) (acts : List Act) (page : ℕ) → is_present g acts page ≡ (is_some (registration_of acts) || was_mapped g acts page) }
+    ensures { (g : ℕ) (acts : List Act) (page : ℕ) →
+        is_present g acts page ≡ (is_some (registration_of acts) || was_mapped g acts page) }
 {}

@@ -33,8 +33,10 @@ pub fn instances_of_reading()
     ensures handed_by { IsHanded 1 (map_sample To) (λ at. at ≡ 0xf001) 8 (Some 0) }
     ensures kept { shown_put 1 area_sample 0xf001 ≡ record { byte = 8; origin = Handed (Some 0) } }
     ensures kept_by { IsHanded 1 area_sample (λ at. at ≡ 0xf001) 8 (Some 0) }
-    ensures in_the_area { last_put 1 area_sample (Area 0x1f001) ≡ record { byte = 8; origin = Handed (Some 0) } }
-    ensures given_back { shown_put 1 (Node Deregistered ∷ area_sample) 0xf001 ≡ record { byte = 8; origin = Handed (Some 0) } }
+    ensures in_the_area { last_put 1 area_sample (Area 0x1f001)
+        ≡ record { byte = 8; origin = Handed (Some 0) } }
+    ensures given_back { shown_put 1 (Node Deregistered ∷ area_sample) 0xf001
+        ≡ record { byte = 8; origin = Handed (Some 0) } }
     ensures moved { shown_put 1 next_page_sample 0xe001 ≡ record { byte = 8; origin = Handed (Some 0) } }
     ensures rest_of_a_page { shown_put 1 (map_sample To) 0xf002 ≡ record { byte = 0; origin = Zero } }
     ensures rest_of_a_large_page { shown_put 16 (map_sample To) 0x1000 ≡ record { byte = 0; origin = Zero } }
@@ -44,8 +46,13 @@ pub fn instances_of_reading()
 
     ensures read { read (daemon_memory (sample_setting 1) (map_sample To)) 0xf000 3 ≡ Ok (7 ∷ 8 ∷ 0 ∷ []) }
     ensures outside_a_page { read (daemon_memory (sample_setting 1) (map_sample To)) 0xefff 2 ≡ Err 0xefff }
-    ensures within_a_large_page { read (daemon_memory (sample_setting 16) (map_sample To)) 0xefff 2 ≡ Ok (0 ∷ 7 ∷ []) }
+    ensures within_a_large_page { read (daemon_memory (sample_setting 16) (map_sample To)) 0xefff 2
+        ≡ Ok (0 ∷ 7 ∷ []) }
 
-    ensures loaded { (third : ℕ) → reply (sample_setting 1) (part_map_history third) (Device v (line.Area (area.Load 0xf000 3))) false ≡ Done (Text (7 ∷ 8 ∷ 0 ∷ []) ∷ []) }
-    ensures third_byte_does_not_show { (a b : ℕ) → LooksAlike (sample_setting 1) (seen_after (sample_setting 1) (part_map_history a) v) (seen_after (sample_setting 1) (part_map_history b) v) }
+    ensures loaded { (third : ℕ) →
+        reply (sample_setting 1) (part_map_history third)
+        (Device v (line.Area (area.Load 0xf000 3))) false ≡ Done (Text (7 ∷ 8 ∷ 0 ∷ []) ∷ []) }
+    ensures third_byte_does_not_show { (a b : ℕ) →
+        LooksAlike (sample_setting 1) (seen_after (sample_setting 1) (part_map_history a) v)
+        (seen_after (sample_setting 1) (part_map_history b) v) }
 {}

@@ -27,10 +27,16 @@ pub fn instances_of_used_bytes()
     ensures stored { last_write (store_sample From) (mapping_sample From) 1 ≡ Some 9 }
     ensures stored_back { ram 1 (Driver (Unmapped (mapping_sample From)) ∷ store_sample From) 0 1 ≡ 9 }
     ensures other_byte { last_write (store_sample From) (mapping_sample From) 0 ≡ None }
-    ensures synced { last_write (Driver (Synced_device (mapping_sample Both)) ∷ store_sample Both) (mapping_sample Both) 1 ≡ None }
-    ensures in_the_area { last_write (Node (Area_put 0x1f001 (6 ∷ [])) ∷ registration_sample Both) (mapping_sample Both) 1 ≡ Some 6 }
-    ensures area_back { ram 1 (Driver (Unmapped (mapping_sample Both)) ∷ Node (Area_put 0x1f001 (6 ∷ [])) ∷ registration_sample Both) 0 1 ≡ 6 }
-    ensures large_page { ram 16 (Driver (Unmapped (mapping_sample Both)) ∷ Node (Area_put 0x1f001 (6 ∷ [])) ∷ registration_sample Both) 0 1 ≡ 6 }
-    ensures peeked { reply (sample_setting 1) (unmap_history From) (Device v (line.Driver (driver.Peek 0 0 2))) false ≡ Done (Text (0 ∷ 9 ∷ []) ∷ []) }
-    ensures peeked_of_a_to { reply (sample_setting 1) (unmap_history To) (Device v (line.Driver (driver.Peek 0 0 2))) false ≡ Done (Text (7 ∷ 8 ∷ []) ∷ []) }
+    ensures synced { last_write (Driver (Synced_device (mapping_sample Both)) ∷ store_sample Both)
+        (mapping_sample Both) 1 ≡ None }
+    ensures in_the_area { last_write (Node (Area_put 0x1f001 (6 ∷ [])) ∷ registration_sample Both)
+        (mapping_sample Both) 1 ≡ Some 6 }
+    ensures area_back { ram 1 (Driver (Unmapped (mapping_sample Both)) ∷ Node
+        (Area_put 0x1f001 (6 ∷ [])) ∷ registration_sample Both) 0 1 ≡ 6 }
+    ensures large_page { ram 16 (Driver (Unmapped (mapping_sample Both)) ∷ Node
+        (Area_put 0x1f001 (6 ∷ [])) ∷ registration_sample Both) 0 1 ≡ 6 }
+    ensures peeked { reply (sample_setting 1) (unmap_history From)
+        (Device v (line.Driver (driver.Peek 0 0 2))) false ≡ Done (Text (0 ∷ 9 ∷ []) ∷ []) }
+    ensures peeked_of_a_to { reply (sample_setting 1) (unmap_history To)
+        (Device v (line.Driver (driver.Peek 0 0 2))) false ≡ Done (Text (7 ∷ 8 ∷ []) ∷ []) }
 {}

@@ -65,7 +65,9 @@ impl Model for LineReader {
 /// Where the first LF is.
 #[inline(always)]
 fn line_end(bytes: &[u8]) -> Option<usize>
-    ensures { MatchOption result (IsOneLine bytes.now) (λ i. (i < length bytes.now) × (slice_index bytes.now i ≡ 10) × ((k : ℕ) → k < i → slice_index bytes.now k ≢ 10)) }
+    ensures { MatchOption result (IsOneLine bytes.now)
+        (λ i. (i < length bytes.now) × (slice_index bytes.now i ≡ 10)
+        × ((k : ℕ) → k < i → slice_index bytes.now k ≢ 10)) }
 {
     memchr(b'\n', bytes)
 }
@@ -210,7 +212,8 @@ impl LineReader {
         ensures failed { result ≡ Err ReadFault.Failed → Rose (S.faults source.old) (S.faults source.new) }
         ensures later { S.faults source.old ≤ S.faults source.new }
         ensures small { result ≡ Ok Next.Line → self.old.taken ≤ 67108864 → self.new.taken ≤ 67108864 }
-        ensures lines { result ≡ Ok Next.Line → length self.new.pending + self.old.taken < self.new.taken + length self.old.pending }
+        ensures lines { result ≡ Ok Next.Line →
+            length self.new.pending + self.old.taken < self.new.taken + length self.old.pending }
     {
         loop {
             if self.cut() {

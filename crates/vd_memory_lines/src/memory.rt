@@ -42,7 +42,9 @@ impl Memory {
         requires low { 2 * per_page ≤ bounce_slots }
         requires order { bounce_slots < iova_slots }
         requires small { iova_slots ≤ 65536 }
-        ensures stands { IfOk result (λ k. (x : Setting) (m : pool.PoolMemory) → x.bounce ≡ bounce_slots → x.iova ≡ iova_slots → x.per_page ≡ per_page → Stands x [] k m) }
+        ensures stands { IfOk result
+            (λ k. (x : Setting) (m : pool.PoolMemory) → x.bounce ≡ bounce_slots →
+            x.iova ≡ iova_slots → x.per_page ≡ per_page → Stands x [] k m) }
         ensures held { IfOk result (λ k. (m : pool.PoolMemory) → m.per_page ≡ per_page → IsHeld k m) }
         ensures counts { IfOk result (λ k. (k.domain.maps ≡ 0) × (k.domain.made ≡ 0)) }
     {
@@ -66,7 +68,8 @@ impl Memory {
 
     /// Ends the bounce region, as a reset of the device does. Mappings, regions and buffers stay.
     pub fn reset(&mut self)
-        ensures stands { (x : Setting) (acts : List Act) (m : pool.PoolMemory) → Stands x acts self.old m → Stands x (State Cleared ∷ acts) self.new m }
+        ensures stands { (x : Setting) (acts : List Act) (m : pool.PoolMemory) →
+            Stands x acts self.old m → Stands x (State Cleared ∷ acts) self.new m }
         ensures rest { KeepsFrames self.old self.new }
     {
         self.domain.reset_bounce();

@@ -111,8 +111,10 @@ pub fn requeue(waiting: &mut VecDeque<Message>, held: &mut VecDeque<Message>)
     requires { deque_len waiting.old + deque_len held.old ≤ deque_capacity held.old }
     ensures waits { waiting.new.items ≡ held.old.items ++ waiting.old.items }
     ensures none { held.new.items ≡ [] }
-    ensures lens { (deque_len held.new ≡ 0) × (deque_len waiting.new ≡ deque_len held.old + deque_len waiting.old) }
-    ensures capacity { (deque_capacity held.old ≤ deque_capacity waiting.new) × (deque_capacity held.new ≡ deque_capacity waiting.old) }
+    ensures lens { (deque_len held.new ≡ 0)
+        × (deque_len waiting.new ≡ deque_len held.old + deque_len waiting.old) }
+    ensures capacity { (deque_capacity held.old ≤ deque_capacity waiting.new)
+        × (deque_capacity held.new ≡ deque_capacity waiting.old) }
 {
     held.append(waiting).unwrap();
     mem::swap(held, waiting);
@@ -123,8 +125,10 @@ pub fn fail_all(list: &mut VecDeque<Message>, ended: &mut VecDeque<Ended>, deadl
     requires { deque_len list.old + deque_len ended.old ≤ deque_capacity ended.old }
     ensures none { list.new.items ≡ [] }
     ensures all { ended.new.items ≡ ended.old.items ++ map (timeout_end deadline now) list.old.items }
-    ensures lens { (deque_len list.new ≡ 0) × (deque_len ended.new ≡ deque_len ended.old + deque_len list.old) }
-    ensures capacity { (deque_capacity list.new ≡ deque_capacity list.old) × (deque_capacity ended.new ≡ deque_capacity ended.old) }
+    ensures lens { (deque_len list.new ≡ 0)
+        × (deque_len ended.new ≡ deque_len ended.old + deque_len list.old) }
+    ensures capacity { (deque_capacity list.new ≡ deque_capacity list.old)
+        × (deque_capacity ended.new ≡ deque_capacity ended.old) }
 {
     while let Some(message) = list.pop_front() {
         ended.push_back_reserved(Ended {
@@ -148,13 +152,18 @@ pub fn make_room(
 ) -> Result<usize, AllocError>
     requires few { deque_len waiting.old + deque_len held.old + deque_len ended.old ≤ room }
     requires ids { deque_len waiting.old + deque_len held.old + deque_len ended.old < 2 ^ 32 }
-    requires has { (room ≤ deque_capacity waiting.old) × (room ≤ deque_capacity held.old) × (room ≤ deque_capacity ended.old) }
-    ensures items { (waiting.new.items ≡ waiting.old.items) × (held.new.items ≡ held.old.items) × (ended.new.items ≡ ended.old.items) }
-    ensures lens { (deque_len waiting.new ≡ deque_len waiting.old) × (deque_len held.new ≡ deque_len held.old) × (deque_len ended.new ≡ deque_len ended.old) }
+    requires has { (room ≤ deque_capacity waiting.old) × (room ≤ deque_capacity held.old)
+        × (room ≤ deque_capacity ended.old) }
+    ensures items { (waiting.new.items ≡ waiting.old.items) × (held.new.items ≡ held.old.items)
+        × (ended.new.items ≡ ended.old.items) }
+    ensures lens { (deque_len waiting.new ≡ deque_len waiting.old)
+        × (deque_len held.new ≡ deque_len held.old) × (deque_len ended.new ≡ deque_len ended.old) }
     ensures grows { (deque_capacity waiting.old ≤ deque_capacity waiting.new) × (deque_capacity held.old ≤ deque_capacity held.new)
         × (deque_capacity ended.old ≤ deque_capacity ended.new) }
     ensures more { IfOk result (λ r. deque_len waiting.old + deque_len held.old + deque_len ended.old < r) }
-    ensures has { IfOk result (λ r. (r ≤ deque_capacity waiting.new) × (r ≤ deque_capacity held.new) × (r ≤ deque_capacity ended.new)) }
+    ensures has { IfOk result
+        (λ r. (r ≤ deque_capacity waiting.new) × (r ≤ deque_capacity held.new)
+        × (r ≤ deque_capacity ended.new)) }
 {
     let untaken = waiting.len() + held.len() + ended.len();
     if untaken < room {

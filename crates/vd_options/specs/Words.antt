@@ -24,8 +24,8 @@ between lo hi None = None
 between lo hi (Some n) = if nat_le lo n && nat_le n hi then Some n else None
 
 -- the page of so many bytes
-abbrev pub page_of : List ℕ → Option Page
-page_of value = if bytes_eq value (codes "4096") then Some Small else (if bytes_eq value (codes "65536") then Some Large else None)
+abbrev pub page_size_of : List ℕ → Option Page
+page_size_of value = if bytes_eq value (codes "4096") then Some Small else (if bytes_eq value (codes "65536") then Some Large else None)
 
 -- the slots of a page
 abbrev pub slots_of : Page → ℕ
@@ -55,7 +55,7 @@ with_image chosen path = if has_disk chosen || (length path == 0) then None else
 -- what was chosen, with one pair of words more
 abbrev pub with_pair : Chosen → List ℕ → List ℕ → Option Chosen
 with_pair chosen flag value =
-    if bytes_eq flag (codes "--page") then with_page chosen (page_of value)
+    if bytes_eq flag (codes "--page") then with_page chosen (page_size_of value)
     else (if bytes_eq flag (codes "--bounce-pages") then with_bounce chosen (between 2 16384 (decimal_of value))
     else (if bytes_eq flag (codes "--iova-pages") then with_iova chosen (between 0 65536 (decimal_of value))
     else (if bytes_eq flag (codes "--sectors") then with_sectors chosen (between 0 131072 (decimal_of value))

@@ -1,7 +1,7 @@
 //! The words of a run.
 
 ghost use Rattle.std.specs.Prelude.{◌≡◌, ◌≤◌, ◌^◌, ◌↔◌, MatchResult, MatchOption, IfOk, None, map, string_bytes};
-ghost use Rattle.vd_options.specs.Words.{decimal_from, decimal_of, between, page_of, slots_of, with_page, with_bounce, with_iova, with_sectors, with_image, with_pair, with_pairs, nothing_chosen, sizes_of, path_in, asked_sizes, asked_image, AreNumbers, IsOptions};
+ghost use Rattle.vd_options.specs.Words.{decimal_from, decimal_of, between, page_size_of, slots_of, with_page, with_bounce, with_iova, with_sectors, with_image, with_pair, with_pairs, nothing_chosen, sizes_of, path_in, asked_sizes, asked_image, AreNumbers, IsOptions};
 
 use crate::options::Options;
 use std::alloc::{AllocError, Global};
@@ -80,7 +80,7 @@ fn number(text: &[u8], lo: u32, hi: u32) -> Option<u32>
 
 /// The page of so many bytes.
 fn page_named(text: &[u8]) -> Option<Page>
-    ensures { result ≡ page_of text.now }
+    ensures { result ≡ page_size_of text.now }
 {
     if text == b"4096".as_slice() {
         Some(Page::Small)

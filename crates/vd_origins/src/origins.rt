@@ -50,7 +50,8 @@ impl Origins {
 
     /// Gives `len` bytes from an address on an origin, up to the end of the memory.
     pub fn set(&mut self, at: u64, len: u64, origin: Origin) -> Result<(), AllocError>
-        ensures ok { OnOk result ((a : ℕ) → a < 2 ^ 64 → origin_at self.new a ≡ (if is_within at len a then origin else origin_at self.old a)) }
+        ensures ok { OnOk result ((a : ℕ) → a < 2 ^ 64 →
+            origin_at self.new a ≡ (if is_within at len a then origin else origin_at self.old a)) }
         ensures err { OnErr result (self.new ≡ self.old) }
     {
         let Some(range) = range_of(at, len) else {
@@ -109,7 +110,8 @@ fn range_of(at: u64, len: u64) -> Option<Range>
 
 /// What some runs have below an address.
 fn before(runs: &Vec<Run>, end: u64) -> Result<Vec<Run>, AllocError>
-    ensures { IfOk result (λ v. (a : ℕ) → a < 2 ^ 64 → origin_in v.items a ≡ (if nat_lt a end then origin_in runs.now.items a else None)) }
+    ensures { IfOk result (λ v. (a : ℕ) → a < 2 ^ 64 →
+        origin_in v.items a ≡ (if nat_lt a end then origin_in runs.now.items a else None)) }
 {
     let mut kept = Vec::new(*runs.allocator());
     if let Some(last) = end.checked_sub(1) {
@@ -148,7 +150,8 @@ fn push_moved(into: &mut Vec<Run>, runs: &[Run], range: Range, to: u64) -> Resul
 
 /// Adds a run behind the others, joined with the last one where that is possible.
 fn push(into: &mut Vec<Run>, run: Run) -> Result<(), AllocError>
-    ensures { OnOk result ((a : ℕ) → origin_in into.new.items a ≡ or_origin (origin_in into.old.items a) (run_origin run a)) }
+    ensures { OnOk result ((a : ℕ) →
+        origin_in into.new.items a ≡ or_origin (origin_in into.old.items a) (run_origin run a)) }
 {
     if let Some(last) = into.pop() {
         if let Some(joined) = last.joined(&run) {

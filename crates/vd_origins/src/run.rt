@@ -43,7 +43,8 @@ impl Run {
 
     /// The run with the bytes of another one of the same origin that begins in it, or right behind it.
     pub fn joined(&self, next: &Run) -> Option<Run>
-        ensures { (r : Run) → result ≡ Some r → (a : ℕ) → run_origin r a ≡ or_origin (run_origin self.now a) (run_origin next.now a) }
+        ensures { (r : Run) → result ≡ Some r → (a : ℕ) →
+            run_origin r a ≡ or_origin (run_origin self.now a) (run_origin next.now a) }
     {
         if self.origin == next.origin && self.first < next.first && next.first - 1 <= self.last {
             return Some(Run {

@@ -183,36 +183,3 @@ impl Pool {
         page.write(at, bytes);
     }
 }
-
-#[cfg(test)]
-mod tests {
-    use super::*;
-    use std::test::Fail;
-
-    #[test]
-    fn zeros_again(rt: HostRuntime) -> Result<(), Fail> {
-        for per_page in [1, 16] {
-            let mut pool = Pool::new(rt.alloc(), per_page);
-            pool.reserve(1)?;
-            assert_eq!(rt; pool.spare(), 1);
-            let last = SLOT_SIZE as usize * per_page as usize - 2;
-            let mut bytes = [0; 4];
-            let frame = pool.take();
-            pool.write(&frame, 0, b"ab");
-            pool.write(&frame, last, b"cd");
-            pool.read(&frame, 0, &mut bytes[..2]);
-            pool.read(&frame, last, &mut bytes[2..]);
-            pool.give(frame);
-            let mut zeros = [1; 4];
-            let frame = pool.take();
-            pool.read(&frame, 0, &mut zeros[..2]);
-            pool.read(&frame, last, &mut zeros[2..]);
-            let spare = pool.spare();
-            pool.give(frame);
-            assert_eq!(rt; &bytes, b"abcd");
-            assert_eq!(rt; zeros, [0; 4]);
-            assert_eq!(rt; spare, 0);
-        }
-        Ok(())
-    }
-}

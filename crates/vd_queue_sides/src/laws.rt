@@ -58,7 +58,8 @@ pub fn daemon_side()
     ensures others { (x : Setting) (q : ℕ) (act : Act) (acts : List Act) → is_daemon_act q act ≡ false →
         (position : Option Side) (hand : Option Hand) (ended : Option Execution) →
         DaemonStands x acts q position hand ended → DaemonStands x (act ∷ acts) q position hand ended }
-    ensures ends { (x : Setting) (q : ℕ) (act : Act) (acts : List Act) → ends_position q act ≡ true → DaemonStands x (act ∷ acts) q None None None }
+    ensures ends { (x : Setting) (q : ℕ) (act : Act) (acts : List Act) →
+        ends_position q act ≡ true → DaemonStands x (act ∷ acts) q None None None }
 
     // The position goes on from the used index of the first fetch.
     ensures first { (x : Setting) (acts : List Act) (q : ℕ) (side : Side) → (s : IsAt x acts q side) →

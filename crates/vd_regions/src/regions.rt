@@ -53,7 +53,9 @@ impl Regions {
     pub fn add(&mut self, region: Region) -> Result<(), AddRegionError>
         requires { region.start ≤ region.last }
         ensures ok { OnOk result (self.new ≡ with_region region self.old) }
-        ensures overlap { result ≡ Err AddRegionError.Overlap ↔ (list_any (overlaps region.start region.last) self.old ≡ true) }
+        ensures overlap { result
+            ≡ Err AddRegionError.Overlap ↔ (list_any (overlaps region.start region.last) self.old
+            ≡ true) }
         ensures err { OnErr result (self.new ≡ self.old) }
     {
         let range = Range {

@@ -26,7 +26,8 @@ pub fn request_law()
     ensures queue { (x : Setting) (made : Creation) (name : List ℕ) (seen : Seen) (failed : Bool) (step : QueueStep) → AreOwned seen.acts made.queues →
         ((q : ℕ) (r : Ring) → ring_of seen.acts q ≡ Some r → HasOwnHeads seen.acts q) → AreOwned ((queue_turn x made name seen failed step).acts ++ seen.acts) made.queues }
     // acts of these kinds change nothing of it
-    ensures quiet { (more acts : List Act) (n : ℕ) → list_all is_quiet more ≡ true → AreOwned acts n → AreOwned (more ++ acts) n }
+    ensures quiet { (more acts : List Act) (n : ℕ) → list_all is_quiet more ≡ true →
+        AreOwned acts n → AreOwned (more ++ acts) n }
     ensures each { (acts : List Act) (n q : ℕ) → AreOwned acts n → q < n → QueueOwned acts q }
     ensures pending { (passes : Option Request → Bool) → passes None ≡ false → (acts : List Act) (n : ℕ) →
         some_pending passes acts n ≡ list_any (λ r. passes (Some r)) (pending_requests acts n) }

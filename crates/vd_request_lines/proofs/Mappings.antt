@@ -9,7 +9,7 @@ use Rattle.vd_model.specs.Acts.{Act, Streaming, Driver, Mapped}
 use Rattle.vd_model.specs.Place.{Slots, place_of}
 use Rattle.vd_model.specs.Puts.{is_from_device}
 use Rattle.vd_model.specs.RingTurns.{placed_mapping, placed_mappings, map_acts, mapping_part, writable_of, last_after}
-use Rattle.blk_driver.specs.Asked.{writable_len}
+use Rattle.blk_driver.specs.Asked.{written_len}
 use Rattle.blk_driver.specs.Buffers.{AreNumbered}
 use Rattle.blk_driver.specs.Driver.{numbers_from}
 
@@ -48,7 +48,7 @@ front_of n (w ∷ ws) vs [] are = are
 front_of n (w ∷ ws) vs (m ∷ ms) are = (are.0, are.1, front_of (n + 1) ws vs ms are.2)
 
 -- the device writes as many bytes as the wants say
-pub writable_is : (n : ℕ) (ws : List Want) (ms : List Streaming) → AreOf n ws ms → writable_of (map mapping_part ms) ≡ writable_len ws
+pub writable_is : (n : ℕ) (ws : List Want) (ms : List Streaming) → AreOf n ws ms → writable_of (map mapping_part ms) ≡ written_len ws
 writable_is n [] [] are = refl
 writable_is n [] (m ∷ ms) are = absurd are
 writable_is n (w ∷ ws) [] are = absurd are

@@ -34,7 +34,7 @@ use Rattle.vd_rings.proofs.Chains.{first_is}
 use Rattle.vd_rings.proofs.Putting.{Shows}
 use Rattle.vd_request_acts.proofs.Alike.{stands_alike}
 use Rattle.vd_request_acts.proofs.Placed.{placed_direct, placed_listed}
-use Rattle.blk_driver.specs.Asked.{asked_in, front_bytes, writable_len}
+use Rattle.blk_driver.specs.Asked.{asked_in, front_bytes, written_len}
 use Rattle.blk_driver.specs.Buffers.{has_range, AreNumbered}
 use Rattle.blk_driver.specs.Driver as blk
 use Rattle.blk_driver.specs.Driver.{request_in, numbers_from}
@@ -247,7 +247,7 @@ module _ (x : Setting) (acts : List Act) (m n : Pool) (q : ℕ) (h k : Memory) (
     its_maps =
         ap (numbers_from res.first_map) (back_to res.first_map (length wants)) ∙ ap (λ f. numbers_from f (length wants)) first_map ∙ sym (numbers_are (maps acts) wants ms are)
 
-    its_writable : writable_len (part_wants (buffers acts) a) ≡ writable_of parts
+    its_writable : written_len (part_wants (buffers acts) a) ≡ writable_of parts
     its_writable = sym (writable_is (maps acts) (part_wants (buffers acts) a) (take (parts_count a) ms) front_are)
 
     is : request_in pending ≡ request

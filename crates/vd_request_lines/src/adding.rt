@@ -37,8 +37,10 @@ fn added(domain: &mut Domain, driver: &mut BlkDriver, parts: &[Part]) -> Result<
     ensures full { OnErr result (length (free_descriptors driver.old.ring) < length parts.now) }
     ensures fits { OnOk result (length parts.now ≤ length (free_descriptors driver.old.ring)) }
     ensures head { IfOk result (λ head. head ≡ next_head driver.old.ring (length parts.now)) }
-    ensures state { OnOk result (driver.new ≡ record driver.old { ring = with_chain driver.old.ring (length parts.now) }) }
-    ensures told { OnOk result (ring_map domain.new ≡ with_parts (ring_map domain.old) driver.old.ring parts.now) }
+    ensures state { OnOk result (driver.new
+        ≡ record driver.old { ring = with_chain driver.old.ring (length parts.now) }) }
+    ensures told { OnOk result (ring_map domain.new
+        ≡ with_parts (ring_map domain.old) driver.old.ring parts.now) }
     ensures same_driver { OnErr result (driver.new ≡ driver.old) }
     ensures same_told { OnErr result (ring_map domain.new ≡ ring_map domain.old) }
     ensures after { IsAfterRingPuts domain.old domain.new }

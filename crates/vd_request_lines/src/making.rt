@@ -32,8 +32,10 @@ pub fn take_back(buffers: &mut Buffers, indirect: bool)
 pub fn make_buffers(memory: &mut Memory, ask: &Ask, indirect: bool) -> Result<(), AllocError>
     requires used { AreUsed memory.old.buffers }
     requires room { total_of memory.old.buffers + made_len indirect (asked_in ask.now) ≤ buffer_limit }
-    ensures made { (x : Setting) (acts : List Act) (m : PoolMemory) → Stands x acts memory.old m → OnOk result (Stands x (made_acts indirect ask.now ++ acts) memory.new m) }
-    ensures none { (x : Setting) (acts : List Act) (m : PoolMemory) → Stands x acts memory.old m → OnErr result (Stands x acts memory.new m) }
+    ensures made { (x : Setting) (acts : List Act) (m : PoolMemory) → Stands x acts memory.old m →
+        OnOk result (Stands x (made_acts indirect ask.now ++ acts) memory.new m) }
+    ensures none { (x : Setting) (acts : List Act) (m : PoolMemory) → Stands x acts memory.old m →
+        OnErr result (Stands x acts memory.new m) }
     ensures rest { memory.new ≡ record memory.old { buffers = memory.new.buffers } }
 {
     memory.buffers.add(&ask.front(0))?;

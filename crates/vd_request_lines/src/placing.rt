@@ -50,7 +50,8 @@ fn submitted(
     requires in_reach { RingInReach (Some (ring_map memory.old.domain)) None driver.old.ring.place }
     requires asked { IsAsked filing.now.ask }
     requires buffer { filing.now.buffer + 1 < 2 ^ 64 }
-    ensures full { (result ≡ Err Full) ↔ (length (free_descriptors driver.old.ring) < needed_descriptors (has_feature filing.now.features 28) (asked_in filing.now.ask)) }
+    ensures full { (result ≡ Err Full) ↔ (length (free_descriptors driver.old.ring) <
+        needed_descriptors (has_feature filing.now.features 28) (asked_in filing.now.ask)) }
     ensures no_space { result ≡ Err NoSpace → (x : Setting) (acts : List Act) → Stands x acts memory.old pool.old → has_range acts filing.now.buffer 0 17 ≡ true →
         placed_mappings x (taken_slots acts) (maps acts) (wants_of (draft_of filing.now.ask filing.now.buffer filing.now.features)) ≡ None }
     ensures submitted { IfOk result (λ r.
@@ -97,9 +98,13 @@ pub fn placed(
     requires asked { IsAsked ask.now }
     ensures none { (x : Setting) (acts : List Act) → Stands x acts memory.old pool.old →
         IfOk result (λ found. found ≡ None → HasNoPlace x acts (draft_of ask.now (buffers acts) features) (length (free_descriptors driver.old.ring))) }
-    ensures stays { (x : Setting) (acts : List Act) → Stands x acts memory.old pool.old → IsNotPlaced result → Stands x acts memory.new pool.new }
+    ensures stays { (x : Setting) (acts : List Act) → Stands x acts memory.old pool.old →
+        IsNotPlaced result → Stands x acts memory.new pool.new }
     ensures same { IsNotPlaced result → driver.new ≡ driver.old }
-    ensures placed { IfOk result (λ found. IfSome found (λ r. IsPlaced memory.old pool.old ask.now features driver.old driver.new r memory.new pool.new)) }
+    ensures placed { IfOk result
+        (λ found. IfSome found
+        (λ r. IsPlaced memory.old pool.old ask.now features driver.old driver.new r memory.new
+        pool.new)) }
     ensures rest { KeepsMemory memory.old memory.new pool.old pool.new }
     ensures maps { memory.new.domain.maps ≤ memory.old.domain.maps + 4 }
 {

@@ -56,7 +56,9 @@ fn polled(
     ensures waiting { IfOk result (λ found. IfSome found (λ p. is_waiting driver.old.ring p.head ≡ true)) }
     ensures request { IfOk result (λ found. IfSome found (λ p. IsOutcome (pending_of driver.old p.head) p)) }
     ensures state { driver.new ≡ driver_after driver.old result }
-    ensures told { ring_map memory.new.domain ≡ with_answer (ring_map memory.old.domain) driver.old.ring (has_feature features 29) (completion_in result) }
+    ensures told { ring_map memory.new.domain
+        ≡ with_answer (ring_map memory.old.domain) driver.old.ring (has_feature features 29)
+        (completion_in result) }
     ensures ends { Ends memory.old pool.old memory.new pool.new (maps_of driver.old result) }
     ensures rest { KeepsMemory memory.old memory.new pool.old pool.new }
     ensures maps { memory.new.domain.maps ≤ memory.old.domain.maps }
@@ -71,7 +73,8 @@ fn polled(
 
 /// The status byte of a request.
 fn status_in(buffers: &Buffers, buffer: u64) -> u8
-    ensures { (g : ℕ) (acts : List Act) → kept_buffers.Stands g acts buffers.now → has_range acts buffer 16 1 ≡ true → result ≡ ram g acts buffer 16 }
+    ensures { (g : ℕ) (acts : List Act) → kept_buffers.Stands g acts buffers.now →
+        has_range acts buffer 16 1 ≡ true → result ≡ ram g acts buffer 16 }
 {
     match buffers.range(buffer, STATUS_AT, 1) {
         Ok(text) => text[0],

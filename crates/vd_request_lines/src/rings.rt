@@ -31,7 +31,9 @@ use vd_rings::{HeldRing, made, ring_size};
 
 /// The size of a ring that may be made on a queue, or why none may.
 fn allowed(kept: &Option<HeldDriver>, wanted: &RingWanted) -> Result<u16, Errno>
-    ensures ok { IfOk result (λ size. (size ≡ wanted.now.size) × (is_ring_size size ≡ true) × (is_some wanted.now.queue.info ≡ true) × (kept.now ≡ None)) }
+    ensures ok { IfOk result
+        (λ size. (size ≡ wanted.now.size) × (is_ring_size size ≡ true)
+        × (is_some wanted.now.queue.info ≡ true) × (kept.now ≡ None)) }
     ensures err { (x : Setting) (made : Creation) (acts : List Act) (q : ℕ) → RequestsStand acts q kept.now → IsKnown made acts q wanted.now.queue →
         IfErr result (λ e. ring_turn x made acts q wanted.now.size ≡ refusal_turn e) }
 {
@@ -104,7 +106,8 @@ pub fn ring<T: Hears>(
         MayTell (λ said. T.heard told.old said told.new) (ring_turn x made acts q wanted.now.size) (After x acts q memory.new m kept.new) result }
     ensures rest { memory.new ≡ record memory.old { domain = memory.new.domain } }
     ensures bounce { memory.new.domain.bounce ≡ memory.old.domain.bounce }
-    ensures counts { (memory.new.domain.maps ≡ memory.old.domain.maps) × (memory.new.domain.made ≤ memory.old.domain.made + 1) }
+    ensures counts { (memory.new.domain.maps ≡ memory.old.domain.maps)
+        × (memory.new.domain.made ≤ memory.old.domain.made + 1) }
 {
     match allowed(kept, wanted) {
         Ok(size) => {

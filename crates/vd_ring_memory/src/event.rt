@@ -34,7 +34,8 @@ fn accepted(
     ensures event { event_idx ≡ true → Stores (daemon_map domain.old pool.old) (available_event_at ring.old.place)
         (little_bytes 2 (next16 ring.old.position)) result (Some (daemon_map domain.new pool.new)) }
     ensures no_event { event_idx ≡ false → OnErr result ⊥ }
-    ensures no_event_told { event_idx ≡ false → daemon_map domain.new pool.new ≡ daemon_map domain.old pool.old }
+    ensures no_event_told { event_idx ≡ false →
+        daemon_map domain.new pool.new ≡ daemon_map domain.old pool.old }
     ensures after { IsAfterPuts domain.old pool.old domain.new pool.new }
 {
     let mut mem = DaemonMem { domain, pool };

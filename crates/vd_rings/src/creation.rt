@@ -33,7 +33,12 @@ pub fn ring_size(size: u64) -> Option<u16>
 /// The place of a ring of a size from an address on.
 fn place_at(size: u16, at: u64) -> RingPlace
     requires { size ≤ 32768 }
-    ensures { result ≡ record { size = size; desc = at; driver = (at + driver_offset size) % 2 ^ 64; device = (at + device_offset size) % 2 ^ 64 } }
+    ensures { result ≡ record {
+      size = size;
+      desc = at;
+      driver = (at + driver_offset size) % 2 ^ 64;
+      device = (at + device_offset size) % 2 ^ 64;
+    } }
 {
     let layout = layout_of(size);
     RingPlace {
@@ -57,7 +62,8 @@ pub fn made(alloc: Global, domain: &mut Domain, size: u16) -> Result<HeldRing, M
     ensures full { (x : Setting) (acts : List Act) (m : PoolMemory) → Stands x acts domain.old m → result ≡ Err NoSpace
         → pages.place_of (taken_slots acts) (pages_of (ring_bytes size)) x.bounce x.iova ≡ None }
     ensures some { result ≢ Err Empty }
-    ensures err { (x : Setting) (acts : List Act) (m : PoolMemory) → Stands x acts domain.old m → OnErr result (Stands x acts domain.new m) }
+    ensures err { (x : Setting) (acts : List Act) (m : PoolMemory) → Stands x acts domain.old m →
+        OnErr result (Stands x acts domain.new m) }
     ensures bounce { domain.new.bounce ≡ domain.old.bounce }
     ensures counts { (domain.new.maps ≡ domain.old.maps) × (domain.new.made ≤ domain.old.made + 1) }
 {

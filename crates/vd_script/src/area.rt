@@ -45,7 +45,8 @@ pub fn area_step<'a>(
 
 /// Appends the step's line.
 pub fn print_area(name: &Text<'_>, step: &AreaStep<'_>, into: &mut Bytes) -> Result<(), AllocError>
-    ensures { OnOk result (into.new ≡ into.old ++ join_with_byte 32 (with_name name.now (area_text step.now))) }
+    ensures { OnOk result (into.new
+        ≡ into.old ++ join_with_byte 32 (with_name name.now (area_text step.now))) }
 {
     match step {
         AreaStep::Lookup { start, last } => begin(

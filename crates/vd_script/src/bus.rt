@@ -46,7 +46,8 @@ pub fn bus_step(word: BusWord, words: &mut Words<'_>) -> Result<BusStep, LineErr
 
 /// Appends the step's line.
 pub fn print_bus(name: &Text<'_>, step: &BusStep, into: &mut Bytes) -> Result<(), AllocError>
-    ensures { OnOk result (into.new ≡ into.old ++ join_with_byte 32 (with_name name.now (bus_text step.now))) }
+    ensures { OnOk result (into.new
+        ≡ into.old ++ join_with_byte 32 (with_name name.now (bus_text step.now))) }
 {
     match step {
         BusStep::Attach => begin(into, BusWord::Attach.text(), name, &[]),

@@ -53,7 +53,8 @@ pub fn print_driver(
     step: &DriverStep<'_>,
     into: &mut Bytes,
 ) -> Result<(), AllocError>
-    ensures { OnOk result (into.new ≡ into.old ++ join_with_byte 32 (with_name name.now (driver_text step.now))) }
+    ensures { OnOk result (into.new
+        ≡ into.old ++ join_with_byte 32 (with_name name.now (driver_text step.now))) }
 {
     match step {
         DriverStep::Buf { bytes } => {

@@ -47,7 +47,8 @@ pub fn node_step<'a>(
 
 /// Appends the step's line.
 pub fn print_node(name: &Text<'_>, step: &NodeStep<'_>, into: &mut Bytes) -> Result<(), AllocError>
-    ensures { OnOk result (into.new ≡ into.old ++ join_with_byte 32 (with_name name.now (node_text step.now))) }
+    ensures { OnOk result (into.new
+        ≡ into.old ++ join_with_byte 32 (with_name name.now (node_text step.now))) }
 {
     match step {
         NodeStep::Open => begin(into, NodeWord::Open.text(), name, &[]),

@@ -59,7 +59,8 @@ pub fn begin(
     device: &Text<'_>,
     numbers: &[u64],
 ) -> Result<(), AllocError>
-    ensures { OnOk result (into.new ≡ into.old ++ join_with_byte 32 (first.now ∷ device.now ∷ map decimal numbers.now)) }
+    ensures { OnOk result (into.new
+        ≡ into.old ++ join_with_byte 32 (first.now ∷ device.now ∷ map decimal numbers.now)) }
 {
     into.extend_from_slice(first)?;
     put_name(into, device)?;

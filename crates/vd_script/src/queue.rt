@@ -92,7 +92,8 @@ pub fn queue_step(
 }
 
 fn put_add(name: &Text<'_>, queue: u32, parts: &Parts, into: &mut Bytes) -> Result<(), AllocError>
-    ensures { OnOk result (into.new ≡ into.old ++ join_with_byte 32 (with_name name.now (queue_text (Add queue parts.now)))) }
+    ensures { OnOk result (into.new
+        ≡ into.old ++ join_with_byte 32 (with_name name.now (queue_text (Add queue parts.now)))) }
 {
     begin(into, QueueWord::Add.text(), name, &[u64::from(queue)])?;
     put_parts(into, parts)
@@ -104,7 +105,8 @@ fn put_submit(
     form: &SubmitForm,
     into: &mut Bytes,
 ) -> Result<(), AllocError>
-    ensures { OnOk result (into.new ≡ into.old ++ join_with_byte 32 (with_name name.now (queue_text (Submit queue form.now)))) }
+    ensures { OnOk result (into.new
+        ≡ into.old ++ join_with_byte 32 (with_name name.now (queue_text (Submit queue form.now)))) }
 {
     begin(into, QueueWord::Submit.text(), name, &[u64::from(queue)])?;
     put_submit_form(into, form)
@@ -112,7 +114,8 @@ fn put_submit(
 
 /// Appends the step's line.
 pub fn print_queue(name: &Text<'_>, step: &QueueStep, into: &mut Bytes) -> Result<(), AllocError>
-    ensures { OnOk result (into.new ≡ into.old ++ join_with_byte 32 (with_name name.now (queue_text step.now))) }
+    ensures { OnOk result (into.new
+        ≡ into.old ++ join_with_byte 32 (with_name name.now (queue_text step.now))) }
 {
     match step {
         QueueStep::Walk { queue, head } => begin(

@@ -94,14 +94,16 @@ impl State {
 
     /// The features that the device offers.
     pub fn offered(&self) -> u64
-        ensures { (made : DeviceShape) (done : List StateAct) → Stands made done self.now → result ≡ made.offered }
+        ensures { (made : DeviceShape) (done : List StateAct) → Stands made done self.now →
+            result ≡ made.offered }
     {
         self.offered
     }
 
     /// The device status.
     pub fn status(&self) -> u8
-        ensures { (made : DeviceShape) (done : List StateAct) → Stands made done self.now → result ≡ acts.device_status done }
+        ensures { (made : DeviceShape) (done : List StateAct) → Stands made done self.now →
+            result ≡ acts.device_status done }
     {
         self.status
     }
@@ -117,7 +119,8 @@ impl State {
 
     /// The features that the driver accepted.
     pub fn features(&self) -> u64
-        ensures { (made : DeviceShape) (done : List StateAct) → Stands made done self.now → result ≡ acts.features_of done }
+        ensures { (made : DeviceShape) (done : List StateAct) → Stands made done self.now →
+            result ≡ acts.features_of done }
     {
         self.features
     }

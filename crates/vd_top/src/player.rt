@@ -54,7 +54,8 @@ impl Player {
     /// It plays with an engine without devices, each of which will have these sizes, for an image of so many sectors.
     pub fn new(alloc: Global, sizes: Sizes, sectors: u64) -> Player
         requires { AreFit sizes }
-        ensures stands { (x : Setting) → IsSized x sizes → x.sectors ≡ sectors → StandsFor x [] result.engine }
+        ensures stands { (x : Setting) → IsSized x sizes → x.sectors ≡ sectors →
+            StandsFor x [] result.engine }
         ensures sectors { result.engine.sectors ≡ sectors }
         ensures reached { IsReached result.engine }
         ensures asked { result.engine.asked ≡ 0 }
@@ -110,12 +111,17 @@ impl Player {
         ensures engine { self.new.engine ≡ self.old.engine }
         ensures reply { self.new.reply ≡ self.old.reply }
         ensures failures { self.new.failures.items ≡ self.old.failures.items }
-        ensures flushed { OnOk result (Flushed self.old.waiting self.new.waiting (K.held sink.old) (K.held sink.new)) }
+        ensures flushed { OnOk result (Flushed self.old.waiting self.new.waiting (K.held sink.old)
+            (K.held sink.new)) }
         ensures alone { OnOk result (is_execution step.now ≡ true → self.new.waiting.bytes ≡ []) }
-        ensures room { OnOk result (is_execution step.now ≡ true → vec_len self.new.failures < vec_capacity self.new.failures) }
-        ensures stopped { IfErr result (λ p. IsHindered p.stop p.lines lines self.old.waiting self.new.waiting (K.held sink.old) (K.held sink.new)) }
+        ensures room { OnOk result (is_execution step.now ≡ true →
+            vec_len self.new.failures < vec_capacity self.new.failures) }
+        ensures stopped { IfErr result
+            (λ p. IsHindered p.stop p.lines lines self.old.waiting self.new.waiting
+            (K.held sink.old) (K.held sink.new)) }
         ensures later { K.faults sink.old ≤ K.faults sink.new }
-        ensures sink_failed { IfErr result (λ p. p.stop ≡ Stop.SinkFailed → Rose (K.faults sink.old) (K.faults sink.new)) }
+        ensures sink_failed { IfErr result
+            (λ p. p.stop ≡ Stop.SinkFailed → Rose (K.faults sink.old) (K.faults sink.new)) }
     {
         if !is_execution(step) {
             return Ok(());
@@ -142,7 +148,8 @@ impl Player {
         requires room { failed ≡ true → vec_len self.old.failures < vec_capacity self.old.failures }
         ensures engine { self.new.engine ≡ self.old.engine }
         ensures failures { self.new.failures.items ≡ failed_more failed (lines + 1) self.old.failures.items }
-        ensures added { OnOk result (IsReplyAdded self.old.reply.bytes.items lines self.old.waiting self.new.waiting) }
+        ensures added { OnOk result (IsReplyAdded self.old.reply.bytes.items lines self.old.waiting
+            self.new.waiting) }
         ensures kept { OnErr result (self.new.waiting ≡ self.old.waiting) }
         ensures memory { IfErr result (λ p. p ≡ record { stop = Stop.Memory; lines = lines }) }
     {
@@ -180,7 +187,8 @@ impl Player {
         ensures counted { (start : ℕ) → RoseBy (length self.old.failures.items) start (I.faults disk.old) →
             RoseBy (length self.new.failures.items) start (I.faults disk.new) }
         ensures later { K.faults sink.old ≤ K.faults sink.new }
-        ensures sink_failed { IfErr result (λ p. p.stop ≡ Stop.SinkFailed → Rose (K.faults sink.old) (K.faults sink.new)) }
+        ensures sink_failed { IfErr result
+            (λ p. p.stop ≡ Stop.SinkFailed → Rose (K.faults sink.old) (K.faults sink.new)) }
     {
         match self.clear() {
             Err(AllocError) => return Err(Progress {

@@ -34,7 +34,8 @@ impl Responder {
     /// It answers with an engine without devices, each of which will have these sizes, for an image of so many sectors.
     pub fn new(alloc: Global, sizes: Sizes, sectors: u64) -> Responder
         requires { AreFit sizes }
-        ensures stands { (x : Setting) → IsSized x sizes → x.sectors ≡ sectors → StandsFor x [] result.player.engine }
+        ensures stands { (x : Setting) → IsSized x sizes → x.sectors ≡ sectors →
+            StandsFor x [] result.player.engine }
         ensures sectors { result.player.engine.sectors ≡ sectors }
         ensures reached { IsReached result.player.engine }
         ensures asked { result.player.engine.asked ≡ 0 }
@@ -87,7 +88,8 @@ impl Responder {
         ensures counted { (start : ℕ) → RoseBy (length self.old.player.failures.items) start (I.faults disk.old) →
             RoseBy (length self.new.player.failures.items) start (I.faults disk.new) }
         ensures later { K.faults sink.old ≤ K.faults sink.new }
-        ensures sink_failed { IfErr result (λ p. p.stop ≡ Stop.SinkFailed → Rose (K.faults sink.old) (K.faults sink.new)) }
+        ensures sink_failed { IfErr result
+            (λ p. p.stop ≡ Stop.SinkFailed → Rose (K.faults sink.old) (K.faults sink.new)) }
     {
         let step = match read_line(self.alloc, &mut self.scratch, line) {
             Err(AllocError) => return Err(Progress {
@@ -135,10 +137,13 @@ pub fn play<S: Source, K: Sink, I: Image>(
     ensures played { (text : List ℕ) → S.left source.old ≡ Some text →
         Played text result.stop result.lines responder.old.player.engine responder.new.player (S.left source.new) (K.held sink.old) (K.held sink.new)
         (I.size disk.old) (shown I.content I.flushes disk.old) (shown I.content I.flushes disk.new) }
-    ensures untouched { (text : List ℕ) → S.left source.old ≡ Some text → executes text ≡ false → disk.new ≡ disk.old }
+    ensures untouched { (text : List ℕ) → S.left source.old ≡ Some text → executes text ≡ false →
+        disk.new ≡ disk.old }
     ensures size { I.size disk.new ≡ I.size disk.old }
-    ensures counted { RoseBy (length responder.new.player.failures.items) (I.faults disk.old) (I.faults disk.new) }
-    ensures source_failed { result.stop ≡ Stop.SourceFailed → Rose (S.faults source.old) (S.faults source.new) }
+    ensures counted { RoseBy (length responder.new.player.failures.items) (I.faults disk.old)
+        (I.faults disk.new) }
+    ensures source_failed { result.stop ≡ Stop.SourceFailed →
+        Rose (S.faults source.old) (S.faults source.new) }
     ensures sink_failed { result.stop ≡ Stop.SinkFailed → Rose (K.faults sink.old) (K.faults sink.new) }
     ensures source_later { S.faults source.old ≤ S.faults source.new }
     ensures sink_later { K.faults sink.old ≤ K.faults sink.new }

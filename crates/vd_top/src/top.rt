@@ -57,7 +57,8 @@ pub fn script_top<S: Source, K: Sink, I: Image>(
     ensures sink_failed { result.status ≡ 4 → Rose (K.faults sink.old) (K.faults sink.new) }
 
     // No other status than those of the table is answered, and 2 for its words alone.
-    ensures known { (sizes : Sizes) → asked_sizes (map string_bytes words.now.items) ≡ Some sizes → is_status result.status ≡ true }
+    ensures known { (sizes : Sizes) → asked_sizes (map string_bytes words.now.items) ≡ Some sizes →
+        is_status result.status ≡ true }
     ensures no_line { is_line_status result.status ≡ false → result.line ≡ 0 }
 
     // The image holds what the run of the lines stored whose replies are written; perhaps that of one line more

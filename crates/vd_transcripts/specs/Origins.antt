@@ -63,17 +63,17 @@ is_same_mapping None None = true
 is_same_mapping (Some m) (Some n) = m == n
 is_same_mapping _ _ = false
 
-abbrev pub is_same : Origin → Origin → Bool
-is_same Zero Zero = true
-is_same Daemon Daemon = true
-is_same (Handed m) (Handed n) = is_same_mapping m n
-is_same _ _ = false
+abbrev pub is_same_origin : Origin → Origin → Bool
+is_same_origin Zero Zero = true
+is_same_origin Daemon Daemon = true
+is_same_origin (Handed m) (Handed n) = is_same_mapping m n
+is_same_origin _ _ = false
 
 -- one byte more in front: of the first group's origin, or of another
 abbrev pub onto_groups : Origin → List Group → List Group
 onto_groups origin [] = record { origin = origin; count = 1 } ∷ []
 onto_groups origin (g ∷ gs) =
-    if is_same origin g.origin then record { origin = g.origin; count = g.count + 1 } ∷ gs
+    if is_same_origin origin g.origin then record { origin = g.origin; count = g.count + 1 } ∷ gs
     else record { origin = origin; count = 1 } ∷ g ∷ gs
 
 unfoldable pub groups : List Origin → List Group

@@ -9,7 +9,7 @@ use Rattle.vd_model.specs.AreaTurns.{first_region}
 use Rattle.vd_model.specs.Turn.{Turn, refuse, refusal_if, refusal_turn}
 use Rattle.vd_vhost_model.specs.declared.step.VhostStep.{VhostStep}
 use Rattle.vd_vhost_model.specs.GuestTable.{VhostAct, table}
-use Rattle.vd_vhost_model.specs.VhostTurns.{VhostTurn, vhost_turn, plain, lookup_turn, found_turn}
+use Rattle.vd_vhost_model.specs.VhostTurns.{VhostTurn, vhost_turn, plain, guest_lookup_turn, found_turn}
 use Rattle.vd_vhost.specs.Told.{Tells, TellsOrDenies}
 use Rattle.vd_vhost.specs.After.{BusParts, IsAfter}
 
@@ -31,7 +31,7 @@ module _ (heard : Answer → Type 0) (size : ℕ) (done : List VhostAct) where
   by_view quiet turn bus same told is t = subst (λ b. TellsOrDenies heard quiet turn (λ acts. IsAfter size (acts ++ done) b) told) is t
 
   pub lookup_found : (bus : BusParts) (s : IsAfter size done bus) (start last : ℕ) (r : Region) → start ≤ last → Some r ≡ first_region bus.guest.regions start last → heard (found_turn r).answer
-      → Tells heard (lookup_turn done start last) (λ acts. IsAfter size (acts ++ done) bus)
+      → Tells heard (guest_lookup_turn done start last) (λ acts. IsAfter size (acts ++ done) bus)
   lookup_found bus s start last r order found says =
       let isnt : nat_lt last start ≡ false = grind (arith, nat_tests) in
       subst (λ b. Tells heard (refuse (refusal_if b Inval) (option_map_or found_turn (first_region (table done) start last) (refusal_turn Inval))) (λ acts. IsAfter size (acts ++ done) bus)) (sym isnt)

@@ -2,7 +2,7 @@
 
 ghost use Rattle.std.specs.Prelude.{◌≡◌, ◌++◌, ℕ, List};
 ghost use Rattle.vd_vhost_model.specs.GuestTable.{VhostAct};
-ghost use Rattle.vd_vhost_model.specs.VhostTurns.{denied_answer, found_turn, poke_turn, peek_turn, load_turn, store_turn, lookup_turn};
+ghost use Rattle.vd_vhost_model.specs.VhostTurns.{denied_answer, found_turn, guest_poke_turn, guest_peek_turn, guest_load_turn, guest_store_turn, guest_lookup_turn};
 ghost use Rattle.vd_vhost.specs.Told.{Says, Tells, MayTell, TellsOrDenies, MayTellOrDeny};
 
 use crate::bus::Bus;
@@ -51,7 +51,7 @@ impl Bus {
     pub fn poke<T: Hears>(&mut self, offset: u64, bytes: &[u8], told: &mut T)
         requires { T.is_ready told.old }
         ensures { (size : ℕ) (done : List VhostAct) → IsAfter size done (parts_of self.old) →
-            Tells (λ said. T.heard told.old said told.new) (poke_turn size offset bytes.now)
+            Tells (λ said. T.heard told.old said told.new) (guest_poke_turn size offset bytes.now)
             (λ acts. IsAfter size (acts ++ done) (parts_of self.new)) }
     {
         if !self.guest.has(offset, bytes.len() as u64) {
@@ -66,7 +66,7 @@ impl Bus {
     pub fn peek<T: Hears>(&self, offset: u64, len: u64, told: &mut T) -> Result<(), AllocError>
         requires { T.is_ready told.old }
         ensures { (size : ℕ) (done : List VhostAct) → IsAfter size done (parts_of self.now) →
-            MayTell (λ said. T.heard told.old said told.new) (peek_turn size done offset len)
+            MayTell (λ said. T.heard told.old said told.new) (guest_peek_turn size done offset len)
             (λ acts. IsAfter size (acts ++ done) (parts_of self.now)) result }
     {
         if !self.guest.has(offset, len) {
@@ -85,7 +85,7 @@ impl Bus {
     ) -> Result<Option<u64>, AllocError>
         requires { T.is_ready told.old }
         ensures line { (size : ℕ) (done : List VhostAct) → IsAfter size done (parts_of self.old) →
-            MayTellOrDeny (λ said. T.heard told.old said told.new) (told.new ≡ told.old) (load_turn done at len)
+            MayTellOrDeny (λ said. T.heard told.old said told.new) (told.new ≡ told.old) (guest_load_turn done at len)
             (λ acts. IsAfter size (acts ++ done) (parts_of self.new)) result }
         ensures same { parts_of self.new ≡ parts_of self.old }
     {
@@ -103,7 +103,7 @@ impl Bus {
     pub fn store<T: Hears>(&mut self, at: u64, bytes: &[u8], told: &mut T) -> Option<u64>
         requires { T.is_ready told.old }
         ensures { (size : ℕ) (done : List VhostAct) → IsAfter size done (parts_of self.old) →
-            TellsOrDenies (λ said. T.heard told.old said told.new) (told.new ≡ told.old) (store_turn done at bytes.now)
+            TellsOrDenies (λ said. T.heard told.old said told.new) (told.new ≡ told.old) (guest_store_turn done at bytes.now)
             (λ acts. IsAfter size (acts ++ done) (parts_of self.new)) result }
     {
         match self.guest.store(at, bytes) {
@@ -119,7 +119,7 @@ impl Bus {
     pub fn lookup<T: Hears>(&self, range: Range, told: &mut T)
         requires { T.is_ready told.old }
         ensures { (size : ℕ) (done : List VhostAct) → IsAfter size done (parts_of self.now) →
-            Tells (λ said. T.heard told.old said told.new) (lookup_turn done range.start range.last)
+            Tells (λ said. T.heard told.old said told.new) (guest_lookup_turn done range.start range.last)
             (λ acts. IsAfter size (acts ++ done) (parts_of self.now)) }
     {
         if range.start > range.last {

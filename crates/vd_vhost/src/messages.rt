@@ -8,7 +8,7 @@ ghost use Rattle.vd_model.specs.Messages as acts;
 ghost use Rattle.vd_model.specs.NodeTurns.{body_items};
 ghost use Rattle.vd_model.specs.Turn.{done_with};
 ghost use Rattle.vd_vhost_model.specs.GuestTable.{VhostAct, Message, messages_of};
-ghost use Rattle.vd_vhost_model.specs.VhostTurns.{recv_turn, answer_turn, take_turn};
+ghost use Rattle.vd_vhost_model.specs.VhostTurns.{guest_recv_turn, answer_turn, guest_take_turn};
 ghost use Rattle.vd_vhost.specs.Told.{Tells};
 ghost use Rattle.vd_vhost.specs.After.{MessagesBefore, MessagesAfter};
 
@@ -51,7 +51,7 @@ fn tell_message<T: Hears>(sent: &Sent, told: &mut T)
 fn recv<T: Hears>(messages: &mut Messages, told: &mut T)
     requires { T.is_ready told.old }
     ensures { (done : List VhostAct) → MessagesBefore done messages.old →
-        Tells (λ said. T.heard told.old said told.new) (recv_turn (messages_of done))
+        Tells (λ said. T.heard told.old said told.new) (guest_recv_turn (messages_of done))
         (MessagesAfter done messages.new) }
 {
     match messages.recv() {
@@ -87,7 +87,7 @@ fn lost<T: Hears>(messages: &mut Messages, told: &mut T)
 /// Tells the end of a message.
 pub fn tell_end<T: Hears>(id: u32, end: TakeAnswer, told: &mut T)
     requires { T.is_ready told.old }
-    ensures { T.heard told.old (take_turn id end).answer told.new }
+    ensures { T.heard told.old (guest_take_turn id end).answer told.new }
 {
     match end {
         TakeAnswer::Pending => told.answer(Answer::Pending),
@@ -110,7 +110,7 @@ impl Bus {
     pub fn recv<T: Hears>(&mut self, told: &mut T)
         requires { T.is_ready told.old }
         ensures { (size : ℕ) (done : List VhostAct) → IsAfter size done (parts_of self.old) →
-            Tells (λ said. T.heard told.old said told.new) (recv_turn (messages_of done))
+            Tells (λ said. T.heard told.old said told.new) (guest_recv_turn (messages_of done))
             (λ acts. IsAfter size (acts ++ done) (parts_of self.new)) }
     {
         recv(&mut self.messages, told);

@@ -3,7 +3,7 @@
 ghost use Rattle.std.specs.Prelude.{◌≡◌, ◌+◌, ◌++◌, ℕ, List, OnErr};
 ghost use Rattle.vd_model.specs.Messages.{message_told};
 ghost use Rattle.vd_vhost_model.specs.GuestTable.{VhostAct, messages_of};
-ghost use Rattle.vd_vhost_model.specs.VhostTurns.{setmap_turn, tick_turn, take_turn, clock_of};
+ghost use Rattle.vd_vhost_model.specs.VhostTurns.{setmap_turn, tick_turn, guest_take_turn, clock_of};
 ghost use Rattle.vd_vhost.specs.Told.{Tells, MayTell};
 ghost use Rattle.vd_vhost.specs.After.{GuestAfter, has_failed, is_id};
 
@@ -47,7 +47,7 @@ fn is_latest(latest: Option<u32>, id: u32) -> bool
 /// Empties the table where the message that ended had told of it and failed.
 fn end_table(guest: &mut Guest, alloc: Global, latest: Option<u32>, id: u32, end: &TakeAnswer)
     ensures { (size : ℕ) (done : List VhostAct) → GuestAfter size done guest.old latest →
-        GuestAfter size ((take_turn id end.now).acts ++ done) guest.new latest }
+        GuestAfter size ((guest_take_turn id end.now).acts ++ done) guest.new latest }
 {
     if has_failed(end) && is_latest(latest, id) {
         guest.set_table(Regions::new(alloc));
@@ -104,7 +104,7 @@ impl Bus {
     pub fn take<T: Hears>(&mut self, id: u32, told: &mut T)
         requires { T.is_ready told.old }
         ensures { (size : ℕ) (done : List VhostAct) → IsAfter size done (parts_of self.old) →
-            Tells (λ said. T.heard told.old said told.new) (take_turn id (message_told (messages_of done) id))
+            Tells (λ said. T.heard told.old said told.new) (guest_take_turn id (message_told (messages_of done) id))
             (λ acts. IsAfter size (acts ++ done) (parts_of self.new)) }
     {
         let end = self.messages.take(id);

@@ -46,20 +46,20 @@ denied_or (Some why) turn = record { answer = denied_answer why; acts = [] }
 
 -- ---- memory
 
-abbrev pub poke_turn : ℕ → ℕ → List ℕ → Turn VhostAct
-poke_turn size offset bytes =
+abbrev pub guest_poke_turn : ℕ → ℕ → List ℕ → Turn VhostAct
+guest_poke_turn size offset bytes =
     refuse (refusal_if (nat_lt size (offset + length bytes)) Inval) (done_with [] (Poked offset bytes ∷ []))
 
-abbrev pub peek_turn : ℕ → List VhostAct → ℕ → ℕ → Turn VhostAct
-peek_turn size done offset len =
+abbrev pub guest_peek_turn : ℕ → List VhostAct → ℕ → ℕ → Turn VhostAct
+guest_peek_turn size done offset len =
     refuse (refusal_if (nat_lt size (offset + len)) Inval) (done_with (Text (each_from (guest done) offset len) ∷ []) [])
 
-abbrev pub load_turn : List VhostAct → ℕ → ℕ → VhostTurn
-load_turn done at len =
+abbrev pub guest_load_turn : List VhostAct → ℕ → ℕ → VhostTurn
+guest_load_turn done at len =
     denied_or (first_denial (table done) Read at len) (done_with (Text (loaded (table done) (guest done) at len) ∷ []) [])
 
-abbrev pub store_turn : List VhostAct → ℕ → List ℕ → VhostTurn
-store_turn done at bytes =
+abbrev pub guest_store_turn : List VhostAct → ℕ → List ℕ → VhostTurn
+guest_store_turn done at bytes =
     denied_or (first_denial (table done) Write at (length bytes)) (done_with [] (Stored at bytes ∷ []))
 
 -- ---- the table
@@ -97,15 +97,15 @@ abbrev pub found_turn : Region → Turn VhostAct
 found_turn r =
     done_with (Word Offset ∷ Address r.offset ∷ Word Start ∷ Address r.start ∷ Word Last ∷ Address r.last ∷ Word Perm ∷ Number r.perm ∷ []) []
 
-abbrev pub lookup_turn : List VhostAct → ℕ → ℕ → Turn VhostAct
-lookup_turn done start last =
+abbrev pub guest_lookup_turn : List VhostAct → ℕ → ℕ → Turn VhostAct
+guest_lookup_turn done start last =
     refuse (refusal_if (nat_lt last start) Inval)
     (option_map_or found_turn (first_region (table done) start last) (refusal_turn Inval))
 
 -- ---- messages
 
-abbrev pub recv_turn : List MessageAct → Turn VhostAct
-recv_turn sent =
+abbrev pub guest_recv_turn : List MessageAct → Turn VhostAct
+guest_recv_turn sent =
     option_map_or (λ m. done_with (Word Id ∷ Number m.id ∷ body_items m.body) (Message (Received m.id) ∷ [])) (next_message sent) (refusal_turn Again)
 
 abbrev pub answer_turn : List MessageAct → ℕ → ℕ → Turn VhostAct
@@ -116,28 +116,28 @@ answer_turn sent id code =
 abbrev pub tick_turn : ℕ → Turn VhostAct
 tick_turn now = refuse (refusal_if (nat_lt (2 ^ 40) now) Inval) (done_with (Number now ∷ []) (Message (Elapsed now) ∷ []))
 
-abbrev pub take_turn : ℕ → TakeAnswer → Turn VhostAct
-take_turn id end.Pending = record { answer = Pending; acts = [] }
-take_turn id end.Unknown = refusal_turn Noent
-take_turn id (end.Done body avail) = done_with [] (Message (Took id) ∷ [])
-take_turn id (end.FailedByReply body code) = record { answer = FailedReply code; acts = Failure_taken id ∷ Message (Took id) ∷ [] }
-take_turn id (end.FailedByTimeout body deadline now) = record { answer = FailedTimeout deadline now; acts = Failure_taken id ∷ Message (Took id) ∷ [] }
+abbrev pub guest_take_turn : ℕ → TakeAnswer → Turn VhostAct
+guest_take_turn id end.Pending = record { answer = Pending; acts = [] }
+guest_take_turn id end.Unknown = refusal_turn Noent
+guest_take_turn id (end.Done body avail) = done_with [] (Message (Took id) ∷ [])
+guest_take_turn id (end.FailedByReply body code) = record { answer = FailedReply code; acts = Failure_taken id ∷ Message (Took id) ∷ [] }
+guest_take_turn id (end.FailedByTimeout body deadline now) = record { answer = FailedTimeout deadline now; acts = Failure_taken id ∷ Message (Took id) ∷ [] }
 
 -- ---- all steps
 
 -- a step on a memory of so many bytes
 abbrev pub vhost_turn : ℕ → List VhostAct → VhostStep → VhostTurn
-vhost_turn size done (step.Poke offset bytes) = plain (poke_turn size offset bytes)
-vhost_turn size done (step.Peek offset len) = plain (peek_turn size done offset len)
+vhost_turn size done (step.Poke offset bytes) = plain (guest_poke_turn size offset bytes)
+vhost_turn size done (step.Peek offset len) = plain (guest_peek_turn size done offset len)
 vhost_turn size done (step.SetMap regions) = plain (setmap_turn size done regions)
-vhost_turn size done (step.Load at len) = load_turn done at len
-vhost_turn size done (step.Store at bytes) = store_turn done at bytes
-vhost_turn size done (step.Lookup range) = plain (lookup_turn done range.start range.last)
-vhost_turn size done step.Recv = plain (recv_turn (messages_of done))
+vhost_turn size done (step.Load at len) = guest_load_turn done at len
+vhost_turn size done (step.Store at bytes) = guest_store_turn done at bytes
+vhost_turn size done (step.Lookup range) = plain (guest_lookup_turn done range.start range.last)
+vhost_turn size done step.Recv = plain (guest_recv_turn (messages_of done))
 vhost_turn size done (step.Answer id code) = plain (answer_turn (messages_of done) id code)
 vhost_turn size done step.Lost = plain (done_with [] (Message Lost ∷ []))
 vhost_turn size done (step.Tick seconds) = plain (tick_turn (clock_of (messages_of done) + seconds))
-vhost_turn size done (step.Take id) = plain (take_turn id (message_told (messages_of done) id))
+vhost_turn size done (step.Take id) = plain (guest_take_turn id (message_told (messages_of done) id))
 
 -- what was done by some steps, the newest first
 unfoldable pub done_by : ℕ → List VhostStep → List VhostAct

@@ -85,7 +85,8 @@ impl<'a> Words<'a> {
 
     /// The next word, if one is left.
     pub fn next(&mut self) -> Option<&'a [u8]>
-        ensures { MatchOption result ((self.old ≡ []) × (self.new ≡ [])) (λ word. self.old ≡ word.now ∷ self.new) }
+        ensures { MatchOption result ((self.old ≡ []) × (self.new ≡ []))
+            (λ word. self.old ≡ word.now ∷ self.new) }
     {
         let rest = self.rest?;
         match position_of(self.separator, rest) {
@@ -102,7 +103,8 @@ impl<'a> Words<'a> {
 
     /// The next word. Without one the line isn't in the grammar.
     pub fn word(&mut self) -> Result<&'a [u8], LineError>
-        ensures { MatchResult result (λ word. self.old ≡ word.now ∷ self.new) (λ e. (e ≡ LineError.Bad) × (self.old ≡ [])) }
+        ensures { MatchResult result (λ word. self.old ≡ word.now ∷ self.new)
+            (λ e. (e ≡ LineError.Bad) × (self.old ≡ [])) }
     {
         self.next().ok_or(LineError::Bad)
     }

@@ -11,11 +11,16 @@ use vr_split::{RingPlace, VecMem};
 
 /// What the definition says of a ring's first descriptor, the others being zero.
 fn by_definition()
-    ensures round { IsFaulty (0 ∷ 240 ∷ 255 ∷ 3 ∷ 0 ∷ 0 ∷ 0 ∷ 0 ∷ 16 ∷ 0 ∷ 0 ∷ 0 ∷ 1 ∷ 0 ∷ 0 ∷ 0 ∷ []) 0 Loop 0 }
-    ensures head { IsFaulty (0 ∷ 240 ∷ 255 ∷ 3 ∷ 0 ∷ 0 ∷ 0 ∷ 0 ∷ 16 ∷ 0 ∷ 0 ∷ 0 ∷ 1 ∷ 0 ∷ 0 ∷ 0 ∷ []) 4 Head 4 }
-    ensures next { IsFaulty (0 ∷ 240 ∷ 255 ∷ 3 ∷ 0 ∷ 0 ∷ 0 ∷ 0 ∷ 16 ∷ 0 ∷ 0 ∷ 0 ∷ 1 ∷ 0 ∷ 4 ∷ 0 ∷ []) 0 Next 0 }
-    ensures shape { IsFaulty (0 ∷ 240 ∷ 255 ∷ 3 ∷ 0 ∷ 0 ∷ 0 ∷ 0 ∷ 24 ∷ 0 ∷ 0 ∷ 0 ∷ 4 ∷ 0 ∷ 0 ∷ 0 ∷ []) 0 Shape 0 }
-    ensures order { IsFaulty (0 ∷ 240 ∷ 255 ∷ 3 ∷ 0 ∷ 0 ∷ 0 ∷ 0 ∷ 16 ∷ 0 ∷ 0 ∷ 0 ∷ 3 ∷ 0 ∷ 1 ∷ 0 ∷ []) 0 Order 1 }
+    ensures round { IsFaulty (0 ∷ 240 ∷ 255 ∷ 3 ∷ 0 ∷ 0 ∷ 0 ∷ 0 ∷ 16 ∷ 0 ∷ 0 ∷ 0 ∷ 1 ∷ 0 ∷ 0 ∷ 0 ∷
+        []) 0 Loop 0 }
+    ensures head { IsFaulty (0 ∷ 240 ∷ 255 ∷ 3 ∷ 0 ∷ 0 ∷ 0 ∷ 0 ∷ 16 ∷ 0 ∷ 0 ∷ 0 ∷ 1 ∷ 0 ∷ 0 ∷ 0 ∷
+        []) 4 Head 4 }
+    ensures next { IsFaulty (0 ∷ 240 ∷ 255 ∷ 3 ∷ 0 ∷ 0 ∷ 0 ∷ 0 ∷ 16 ∷ 0 ∷ 0 ∷ 0 ∷ 1 ∷ 0 ∷ 4 ∷ 0 ∷
+        []) 0 Next 0 }
+    ensures shape { IsFaulty (0 ∷ 240 ∷ 255 ∷ 3 ∷ 0 ∷ 0 ∷ 0 ∷ 0 ∷ 24 ∷ 0 ∷ 0 ∷ 0 ∷ 4 ∷ 0 ∷ 0 ∷ 0 ∷
+        []) 0 Shape 0 }
+    ensures order { IsFaulty (0 ∷ 240 ∷ 255 ∷ 3 ∷ 0 ∷ 0 ∷ 0 ∷ 0 ∷ 16 ∷ 0 ∷ 0 ∷ 0 ∷ 3 ∷ 0 ∷ 1 ∷ 0 ∷
+        []) 0 Order 1 }
     ensures chain { ending_of (row_start 0) (row_memory (0 ∷ 240 ∷ 255 ∷ 3 ∷ 0 ∷ 0 ∷ 0 ∷ 0 ∷ 16 ∷ 0 ∷ 0 ∷ 0 ∷ 0 ∷ 0 ∷ 0 ∷ 0 ∷ []))
         ≡ whole (record { head = 0; parts = record { at = 67104768; len = 16; writable = false } ∷ []; readable = 16; writable = 0 }) }
 {}

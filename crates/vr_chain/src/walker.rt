@@ -23,7 +23,8 @@ const MAX_CHAIN_BYTES: u64 = 16777216;
 /// Loads the descriptor at a position.
 fn load<M: Mem>(mem: &mut M, position: &Position) -> Result<Descriptor, Bus>
     ensures loads { ForSome (M.told mem.old) (λ m. Reads m position.now result) }
-    ensures in_reach { Reaches (M.told mem.old) (M.span mem.old) (descriptor_address position.now) 16 → IsOk result }
+    ensures in_reach { Reaches (M.told mem.old) (M.span mem.old) (descriptor_address position.now)
+        16 → IsOk result }
     ensures memory { IsUnchanged M.told M.span M.keeps mem.old mem.new }
 {
     let mut bytes = [0; 16];
@@ -109,8 +110,10 @@ fn follow<M: Mem>(
     negotiated: bool,
 ) -> Result<Chain, WalkError>
     requires { ring.now.size ≤ 32768 }
-    ensures found { ForSome (M.told mem.old) (λ m. UnlessMemory result (EndsAs (trace_start ring.now head negotiated) m)) }
-    ensures no_bus { negotiated ≡ false → TableInReach (M.told mem.old) (M.span mem.old) ring.now → IsNoBus result }
+    ensures found { ForSome (M.told mem.old)
+        (λ m. UnlessMemory result (EndsAs (trace_start ring.now head negotiated) m)) }
+    ensures no_bus { negotiated ≡ false → TableInReach (M.told mem.old) (M.span mem.old) ring.now →
+        IsNoBus result }
     ensures memory { IsUnchanged M.told M.span M.keeps mem.old mem.new }
 {
     let mut position = Position {
@@ -157,13 +160,16 @@ pub fn walk<M: Mem>(
     requires { ring.now.size ≤ 32768 }
 
     // The trace ends as the answer tells, and where it ends so, this is the answer.
-    ensures found { ForSome (M.told mem.old) (λ m. UnlessMemory result (EndsAs (trace_start ring.now head indirect) m)) }
+    ensures found { ForSome (M.told mem.old)
+        (λ m. UnlessMemory result (EndsAs (trace_start ring.now head indirect) m)) }
     ensures only { ForSome (M.told mem.old) (λ m. (end : Ending) →
         EndsAs (trace_start ring.now head indirect) m end → UnlessMemory result (λ e. e ≡ end)) }
-    ensures computed { ForSome (M.told mem.old) (λ m. UnlessMemory result (λ e. e ≡ ending_of (trace_start ring.now head indirect) m)) }
+    ensures computed { ForSome (M.told mem.old)
+        (λ m. UnlessMemory result (λ e. e ≡ ending_of (trace_start ring.now head indirect) m)) }
 
     // With no indirect tables it reads the ring's descriptors alone.
-    ensures no_bus { indirect ≡ false → TableInReach (M.told mem.old) (M.span mem.old) ring.now → IsNoBus result }
+    ensures no_bus { indirect ≡ false → TableInReach (M.told mem.old) (M.span mem.old) ring.now →
+        IsNoBus result }
 
     ensures memory { IsUnchanged M.told M.span M.keeps mem.old mem.new }
 {

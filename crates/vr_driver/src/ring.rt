@@ -145,7 +145,8 @@ impl DriverRing {
         requires enough { 0 < length (free_descriptors self.old) }
         ensures head { result ≡ next_head self.old 1 }
         ensures side { self.new ≡ with_descriptors_taken self.old 1 }
-        ensures written { Becomes M.told mem.old mem.new (λ m. with_descriptor m self.old.place result d.now) }
+        ensures written { Becomes M.told mem.old mem.new
+            (λ m. with_descriptor m self.old.place result d.now) }
         ensures memory { KeepsReach M.told M.span M.keeps mem.old mem.new }
     {
         let mut picked = [0; 1];
@@ -160,10 +161,12 @@ impl DriverRing {
         requires some { 0 < length parts.now }
 
         ensures too_long { (result ≡ Err TooLong) ↔ (self.old.place.size < length parts.now) }
-        ensures full { (result ≡ Err Full) ↔ ((length parts.now ≤ self.old.place.size) × (length (free_descriptors self.old) < length parts.now)) }
+        ensures full { (result ≡ Err Full) ↔ ((length parts.now ≤ self.old.place.size)
+            × (length (free_descriptors self.old) < length parts.now)) }
         ensures head { IfOk result (λ head. head ≡ next_head self.old (length parts.now)) }
         ensures state { OnOk result (self.new ≡ with_chain self.old (length parts.now)) }
-        ensures written { OnOk result (Becomes M.told mem.old mem.new (λ m. with_parts m self.old parts.now)) }
+        ensures written { OnOk result (Becomes M.told mem.old mem.new
+            (λ m. with_parts m self.old parts.now)) }
 
         // A refusal changes nothing.
         ensures err { OnErr result (self.new ≡ self.old) }
@@ -201,7 +204,8 @@ impl DriverRing {
         ensures full { (result ≡ Err Full) ↔ (free_descriptors self.old ≡ []) }
         ensures head { IfOk result (λ head. head ≡ next_head self.old 1) }
         ensures state { OnOk result (self.new ≡ with_chain self.old 1) }
-        ensures written { OnOk result (Becomes M.told mem.old mem.new (λ m. with_table m self.old table count)) }
+        ensures written { OnOk result (Becomes M.told mem.old mem.new
+            (λ m. with_table m self.old table count)) }
 
         // A refusal changes nothing.
         ensures err { OnErr result (self.new ≡ self.old) }

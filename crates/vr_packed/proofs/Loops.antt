@@ -6,7 +6,7 @@ use Rattle.std.proofs.lemmas.Bool.{cases_lt}
 use Rattle.std.proofs.lemmas.Grind.{common_steps}
 use Rattle.vd_model.specs.declared.parts.Part.{Part}
 use Rattle.vr_slots.specs.declared.slot.Slot.{Slot}
-use Rattle.vr_slots.specs.Slots.{flags_of, wrap_of, slot_at, with_slot, has_next, is_writable}
+use Rattle.vr_slots.specs.Slots.{slot_flags, wrap_of, slot_at, with_slot, slot_goes_on, slot_is_writable}
 use Rattle.vr_packed.specs.Lies.{is_more, waiting_slot, ChainLies, chain_written, one_if, occurs}
 use Rattle.vr_packed.proofs.FlagTests.{reads_back}
 use Rattle.vr_packed.proofs.Records.{occurs-snoc}
@@ -29,7 +29,7 @@ flagged p id flags = record { at = p.at; len = p.len; id = id; flags = flags }
 
 -- one more part is written
 pub write-more : (slots next : List Slot) (place id : ℕ) (ps : List Part) (i flags : ℕ) (p : Part) (wrap : Bool)
-    → i < length ps → p ≡ get_or ps i no_part → wrap ≡ wrap_of (length slots) (place + i) → flags ≡ flags_of (nat_lt (i + 1) (length ps)) p.writable wrap (not wrap)
+    → i < length ps → p ≡ get_or ps i no_part → wrap ≡ wrap_of (length slots) (place + i) → flags ≡ slot_flags (nat_lt (i + 1) (length ps)) p.writable wrap (not wrap)
     → next ≡ with_slot slots (place + i) (flagged p id flags)
     → chain_written next (place + (i + 1)) id (drop (i + 1) ps) ≡ chain_written slots (place + i) id (drop i ps)
 write-more slots next place id ps i flags p wrap h here wraps marks set_to =
@@ -58,13 +58,13 @@ part_with p writable = record { at = p.at; len = p.len; writable = writable }
 
 -- the part that a descriptor says
 abbrev pub record_part : Slot → Part
-record_part s = record { at = s.at; len = s.len; writable = is_writable s }
+record_part s = record { at = s.at; len = s.len; writable = slot_is_writable s }
 
 -- what a descriptor says of the part that it was written for
 pub record ReadPart (slots : List Slot) (place id : ℕ) (ps : List Part) (i : ℕ) : Type 0 where
   pub part : record_part (slot_at slots (place + i)) ≡ get_or ps i no_part
   pub id_is : (slot_at slots (place + i)).id ≡ id
-  pub more : has_next (slot_at slots (place + i)) ≡ nat_lt (i + 1) (length ps)
+  pub more : slot_goes_on (slot_at slots (place + i)) ≡ nat_lt (i + 1) (length ps)
   pub rest : ChainLies slots (place + (i + 1)) id (drop (i + 1) ps)
 
 pub read_part : (slots : List Slot) (place id : ℕ) (ps : List Part) (i : ℕ) → i < length ps → ChainLies slots (place + i) id (drop i ps) → ReadPart slots place id ps i
@@ -80,7 +80,7 @@ read_part slots place id ps i h lies =
     record {
       part = ap record_part both.0 ∙ ap (λ (b : Bool). part_with p b) back.of_writable;
       id_is = ap (λ (s : Slot). s.id) both.0;
-      more = ap has_next both.0 ∙ back.of_next ∙ is_more-drop ps (suc i) ∙ ap (λ (k : ℕ). nat_lt k (length ps)) last;
+      more = ap slot_goes_on both.0 ∙ back.of_next ∙ is_more-drop ps (suc i) ∙ ap (λ (k : ℕ). nat_lt k (length ps)) last;
       rest = subst (λ (k : ℕ). ChainLies slots (place + (i + 1)) id (drop k ps)) last (subst (λ (k : ℕ). ChainLies slots k id rest) on both.1);
     }
 

@@ -3,7 +3,7 @@ use Rattle.std.proofs.Common.{◌≡◌, ℕ, suc, ◌+◌, ◌<◌, ◌==◌, B
 use Rattle.std.proofs.Math.ListN.{set}
 use Rattle.std.proofs.lemmas.Bool.Decides.{nat_tests}
 use Rattle.std.proofs.lemmas.List.{length-set, get_or-set_other}
-use Rattle.vr_pair.specs.QueueLists.{NumberedChain, count_parts, chain_of, without_chain}
+use Rattle.vr_pair.specs.QueueLists.{NumberedChain, count_parts, numbered_chain, without_chain}
 use Rattle.vr_packed.specs.declared.chain.ChainRecord.{ChainRecord}
 use Rattle.vr_packed.specs.declared.chain.TakenChain.{TakenChain}
 use Rattle.vr_packed.specs.Lies.{no_record, record_of, Known, AreTaken, taken_ids, taken_of, without_taken, one_if, occurs}
@@ -74,7 +74,7 @@ test-same : (number : ℕ) (t : TakenChain) (c : NumberedChain) (b : Bool) → t
 test-same number t c b e h = ap (λ (n : ℕ). n == number) (sym e) ∙ h
 
 none-taken_step : (number : ℕ) (t : TakenChain) (ts : List TakenChain) (c : NumberedChain) (cs : List NumberedChain) → t.number ≡ c.number → taken_of number (t ∷ ts) ≡ None
-    → (taken_of number ts ≡ None → (chain_of number cs ≡ None) × (without_taken number ts ≡ ts)) → (chain_of number (c ∷ cs) ≡ None) × (without_taken number (t ∷ ts) ≡ t ∷ ts)
+    → (taken_of number ts ≡ None → (numbered_chain number cs ≡ None) × (without_taken number ts ≡ ts)) → (numbered_chain number (c ∷ cs) ≡ None) × (without_taken number (t ∷ ts) ≡ t ∷ ts)
 none-taken_step number t ts c cs same e rest = elim (either (t.number == number)) [
   | inl hit ↦
       (let found : Some t ≡ None = rw hit at e in
@@ -87,7 +87,7 @@ none-taken_step number t ts c cs same e rest = elim (either (t.number == number)
 ]
 
 -- no chain of a number is taken
-pub none-taken : (number : ℕ) (ts : List TakenChain) (cs : List NumberedChain) → AreTaken ts cs → taken_of number ts ≡ None → (chain_of number cs ≡ None) × (without_taken number ts ≡ ts)
+pub none-taken : (number : ℕ) (ts : List TakenChain) (cs : List NumberedChain) → AreTaken ts cs → taken_of number ts ≡ None → (numbered_chain number cs ≡ None) × (without_taken number ts ≡ ts)
 none-taken number [] [] h e = (refl, refl)
 none-taken number [] (c ∷ cs) h e = absurd h
 none-taken number (t ∷ ts) [] h e = absurd h
@@ -96,7 +96,7 @@ none-taken number (t ∷ ts) (c ∷ cs) h e = none-taken_step number t ts c cs h
 -- the chain of a number is taken out
 pub record Removed (number : ℕ) (t : TakenChain) (ts : List TakenChain) (cs : List NumberedChain) (records : List ChainRecord) : Type 0 where
   pub chain : NumberedChain
-  pub found : chain_of number cs ≡ Some chain
+  pub found : numbered_chain number cs ≡ Some chain
   pub named : chain.number ≡ number
   pub count : t.count ≡ length chain.parts
   pub some : 0 < length chain.parts

@@ -3,7 +3,7 @@ use Rattle.std.proofs.Common.{◌≡◌, ℕ, zero, suc, ◌+◌, ◌-◌, ◌^�
 use Rattle.std.proofs.Props.{props}
 use Rattle.std.proofs.Math.Logic.{∥∥₁_elim}
 use Rattle.vd_model.specs.declared.parts.Part.{Part}
-use Rattle.vr_pair.specs.QueueLists.{NumberedChain, FinishedChain, QueueLists, count_parts, finished_chains, free_count, chain_of, with_taken, with_used, with_reclaimed}
+use Rattle.vr_pair.specs.QueueLists.{NumberedChain, FinishedChain, QueueLists, count_parts, finished_chains, free_count, numbered_chain, with_taken, with_used, with_reclaimed}
 use Rattle.vr_slots.specs.declared.slot.Slot.{Slot}
 use Rattle.vr_slots.specs.Slots.{wrap_of, slot_at, with_slot, is_available, is_used}
 use Rattle.vr_packed.specs.declared.chain.TakenChain.{TakenChain}
@@ -240,7 +240,7 @@ free_room s q h n len e le =
 -- THE STEPS, by what the code leaves
 
 pub unused_stands : (s : Sides) (q : QueueLists) (number : ℕ) (ts : List TakenChain) → taken_of number s.taken ≡ None → ts ≡ without_taken number s.taken → (h : PackedStands s q)
-    → (chain_of number q.taken ≡ None) × PackedStands (record s { taken = ts }) q
+    → (numbered_chain number q.taken ≡ None) × PackedStands (record s { taken = ts }) q
 unused_stands s q number ts none rest h =
     let absent = none-taken number s.taken q.taken h.takes none in
     (absent.0, subst (λ (l : List TakenChain). PackedStands (record s { taken = l }) q) (sym (rest ∙ absent.1)) h)

@@ -3,7 +3,7 @@ use Rattle.std.specs.Prelude.{ℕ, Bool, true, false, not, ◌≡◌, ◌==◌, 
 use Rattle.vd_model.specs.declared.parts.Part.{Part}
 use Rattle.vr_pair.specs.QueueLists.{NumberedChain, FinishedChain}
 use Rattle.vr_slots.specs.declared.slot.Slot.{Slot}
-use Rattle.vr_slots.specs.Slots.{flags_of, wrap_of, slot_at, with_slot}
+use Rattle.vr_slots.specs.Slots.{slot_flags, wrap_of, slot_at, with_slot}
 use Rattle.vr_packed.specs.declared.chain.ChainRecord.{ChainRecord}
 use Rattle.vr_packed.specs.declared.chain.TakenChain.{TakenChain}
 
@@ -15,11 +15,11 @@ is_more (p ∷ ps) = true
 
 -- the descriptor of a part that waits: AVAIL is the wrap counter, and USED isn't
 abbrev pub waiting_slot : ℕ → Part → Bool → Bool → Slot
-waiting_slot id p more wrap = record { at = p.at; len = p.len; id = id; flags = flags_of more p.writable wrap (not wrap) }
+waiting_slot id p more wrap = record { at = p.at; len = p.len; id = id; flags = slot_flags more p.writable wrap (not wrap) }
 
 -- the descriptor of a chain that was used: both are the wrap counter, and WRITE tells that bytes were written
 abbrev pub used_slot : ℕ → ℕ → Bool → Slot
-used_slot id len wrap = record { at = 0; len = len; id = id; flags = flags_of false (nat_lt 0 len) wrap wrap }
+used_slot id len wrap = record { at = 0; len = len; id = id; flags = slot_flags false (nat_lt 0 len) wrap wrap }
 
 -- the parts of a chain stand in order from a place on
 abbrev pub ChainLies : List Slot → ℕ → ℕ → List Part → Type 0

@@ -30,7 +30,8 @@ impl PackedPair {
     pub fn new(alloc: Global, size: u16) -> Result<PackedPair, AllocError>
         requires some { 0 < size }
         requires small { size ≤ 32768 }
-        ensures lists { IfOk result (λ pair. PackedStands (sides_of pair.slots pair.driver pair.device) (empty_lists size)) }
+        ensures lists { IfOk result
+            (λ pair. PackedStands (sides_of pair.slots pair.driver pair.device) (empty_lists size)) }
         ensures placed { IfOk result (λ pair. pair.driver.placed ≡ 0) }
     {
         let count = size as usize;
@@ -63,7 +64,9 @@ impl PackedPair {
     /// place on that is the count of parts of all chains that `next` has given.
     pub fn slots(&self) -> &[u8]
         ensures len { length result.now ≡ length self.now.slots * 16 }
-        ensures waiting { (q : QueueLists) → PackedStands (sides_of self.now.slots self.now.driver self.now.device) q → WaitingLie result.now q }
+        ensures waiting { (q : QueueLists) →
+            PackedStands (sides_of self.now.slots self.now.driver self.now.device) q →
+            WaitingLie result.now q }
     {
         self.slots.as_bytes()
     }

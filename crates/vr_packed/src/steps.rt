@@ -2,7 +2,7 @@
 ghost use Rattle.std.specs.Prelude.{◌≡◌, ◌+◌, ◌<◌, ◌≤◌, ◌^◌, ◌++◌, ℕ, List, length, nat_lt, vec_capacity, IfOk, position, ◌==◌};
 ghost use Rattle.std.specs.VecDeque.{deque_capacity};
 ghost use Rattle.vd_model.specs.declared.parts.Part.{Part};
-ghost use Rattle.vr_slots.specs.Slots.{flags_of, with_slot, wrap_of};
+ghost use Rattle.vr_slots.specs.Slots.{slot_flags, with_slot, wrap_of};
 ghost use Rattle.vr_packed.specs.Lies.{ChainLies, chain_written, used_slot, taken_of, without_taken, one_if, occurs};
 
 use crate::chain::TakenChain;
@@ -28,7 +28,7 @@ pub fn all_ids(alloc: Global, size: u16) -> Result<Vec<u16>, AllocError>
 
 /// The flags of a descriptor.
 fn flags(next: bool, writable: bool, available: bool, used: bool) -> u16
-    ensures { result ≡ flags_of next writable available used }
+    ensures { result ≡ slot_flags next writable available used }
 {
     let mut flags = 0;
     if next {

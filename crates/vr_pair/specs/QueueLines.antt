@@ -13,7 +13,7 @@ use Rattle.vd_model.specs.Replies.{address_text}
 use Rattle.vd_model.specs.Text.{writable_text}
 use Rattle.vr_pair.specs.declared.line.QueueLine.{QueueLine}
 use Rattle.vr_pair.specs.declared.line.QueueLine.TheVariants.{Add, Next, Used, Reclaim}
-use Rattle.vr_pair.specs.QueueLists.{NumberedChain, FinishedChain, QueueLists, is_readable_first, bytes_in, chain_limit, empty_lists, free_count, chain_of, with_added, with_taken, with_used, with_reclaimed}
+use Rattle.vr_pair.specs.QueueLists.{NumberedChain, FinishedChain, QueueLists, is_readable_first, bytes_in, chain_limit, empty_lists, free_count, numbered_chain, with_added, with_taken, with_used, with_reclaimed}
 
 -- WHAT A LINE SAYS
 
@@ -55,8 +55,8 @@ refused q e = record { lists = q; reply = reply_words (codes "err" ∷ decimal (
 
 -- TURNS
 
-abbrev pub add_turn : QueueLists → List Part → QueueTurn
-add_turn q parts =
+abbrev pub lists_add_turn : QueueLists → List Part → QueueTurn
+lists_add_turn q parts =
     if is_readable_first parts then
     if nat_lt chain_limit (bytes_in parts) then refused q Inval else
     if nat_lt (free_count q) (length parts) then refused q Nospc else
@@ -75,15 +75,15 @@ abbrev pub reclaim_turn : QueueLists → List FinishedChain → QueueTurn
 reclaim_turn q [] = refused q Again
 reclaim_turn q (front ∷ rest) = answered (with_reclaimed q rest) (decimal front.chain.number ∷ decimal front.len ∷ [])
 
-abbrev pub queue_turn : QueueLists → QueueLine → QueueTurn
-queue_turn q (Add parts) = add_turn q parts
-queue_turn q Next = next_turn q q.waiting
-queue_turn q (Used number len) = used_turn q (chain_of number q.taken) len
-queue_turn q Reclaim = reclaim_turn q q.used
+abbrev pub lists_turn : QueueLists → QueueLine → QueueTurn
+lists_turn q (Add parts) = lists_add_turn q parts
+lists_turn q Next = next_turn q q.waiting
+lists_turn q (Used number len) = used_turn q (numbered_chain number q.taken) len
+lists_turn q Reclaim = reclaim_turn q q.used
 
 -- a line that asks nothing has no reply
 abbrev pub turn_of : QueueLists → Option (Option QueueLine) → QueueTurn
-turn_of q (Some (Some line)) = queue_turn q line
+turn_of q (Some (Some line)) = lists_turn q line
 turn_of q _ = record { lists = q; reply = [] }
 
 -- the replies to lines, from some lists on

@@ -64,8 +64,8 @@ abbrev pub free_count : QueueLists → ℕ
 free_count q = q.size - (count_parts q.waiting + count_parts q.taken + count_parts (finished_chains q.used))
 
 -- the chain of a number
-abbrev pub chain_of : ℕ → List NumberedChain → Option NumberedChain
-chain_of number chains = find (λ c. c.number == number) chains
+abbrev pub numbered_chain : ℕ → List NumberedChain → Option NumberedChain
+numbered_chain number chains = find (λ c. c.number == number) chains
 
 -- without the first chain of a number
 abbrev pub without_chain : ℕ → List NumberedChain → List NumberedChain
@@ -108,8 +108,8 @@ Takes q (Err e) parts After = After q
 
 -- whether a chain of this number is taken; it is used then
 abbrev pub Uses : QueueLists → ℕ → ℕ → Bool → (QueueLists → Type 0) → Type 0
-Uses q number len true After = (chain : NumberedChain) × (chain_of number q.taken ≡ Some chain) × (chain.number ≡ number) × After (with_used q chain len)
-Uses q number len false After = (chain_of number q.taken ≡ None) × After q
+Uses q number len true After = (chain : NumberedChain) × (numbered_chain number q.taken ≡ Some chain) × (chain.number ≡ number) × After (with_used q chain len)
+Uses q number len false After = (numbered_chain number q.taken ≡ None) × After q
 
 -- None exactly where no used chain waits; else the front of them
 abbrev pub Reclaims : QueueLists → Option UsedChain → (QueueLists → Type 0) → Type 0

@@ -18,15 +18,15 @@ abbrev pub empty_slot : Slot
 empty_slot = record { at = 0; len = 0; id = 0; flags = 0 }
 
 -- NEXT 1, WRITE 2, AVAIL 0x80, USED 0x8000
-abbrev pub flags_of : Bool → Bool → Bool → Bool → ℕ
-flags_of next writable available used =
+abbrev pub slot_flags : Bool → Bool → Bool → Bool → ℕ
+slot_flags next writable available used =
     (if next then 1 else 0) + (if writable then 2 else 0) + (if available then 128 else 0) + (if used then 32768 else 0)
 
-abbrev pub has_next : Slot → Bool
-has_next s = bit_and s.flags 1 == 1
+abbrev pub slot_goes_on : Slot → Bool
+slot_goes_on s = bit_and s.flags 1 == 1
 
-abbrev pub is_writable : Slot → Bool
-is_writable s = bit_and s.flags 2 == 2
+abbrev pub slot_is_writable : Slot → Bool
+slot_is_writable s = bit_and s.flags 2 == 2
 
 abbrev pub has_available : Slot → Bool
 has_available s = bit_and s.flags 128 == 128

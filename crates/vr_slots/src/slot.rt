@@ -15,7 +15,7 @@ pub struct Slot {
 }
 
 impl Slot {
-    ghost use Rattle.vr_slots.specs.Slots.{slot_bytes, slot_of, has_next, is_writable, has_available, has_used, is_available, is_used};
+    ghost use Rattle.vr_slots.specs.Slots.{slot_bytes, slot_of, slot_goes_on, slot_is_writable, has_available, has_used, is_available, is_used};
 
     /// What 16 bytes say.
     pub fn from_bytes(bytes: &[u8; 16]) -> Slot
@@ -44,14 +44,14 @@ impl Slot {
 
     /// Whether its chain goes on in the next slot.
     pub fn has_next(&self) -> bool
-        ensures { result ≡ has_next self.now }
+        ensures { result ≡ slot_goes_on self.now }
     {
         SlotFlags::from_bits_retain(self.flags).contains(SlotFlags::NEXT)
     }
 
     /// Whether the device writes its buffer.
     pub fn is_writable(&self) -> bool
-        ensures { result ≡ is_writable self.now }
+        ensures { result ≡ slot_is_writable self.now }
     {
         SlotFlags::from_bits_retain(self.flags).contains(SlotFlags::WRITE)
     }

@@ -46,7 +46,8 @@ pub trait Mem {
 
     /// Stores a number of two bytes, the low one first, or nothing.
     fn store16(&mut self, at: u64, value: u16) -> Result<(), Bus>
-        ensures stores { ForSome (told self.old) (λ m. Stores m at (little_bytes 2 value) result (told self.new)) }
+        ensures stores { ForSome (told self.old)
+            (λ m. Stores m at (little_bytes 2 value) result (told self.new)) }
         ensures spanned { InSpan (span self.old) at 2 → IsOk result }
         ensures span { span self.new ≡ span self.old }
         ensures keeps { keeps self.old self.new }

@@ -36,7 +36,8 @@ impl VecMem {
         requires { 0 < n }
         ensures within { IfOk result (λ i. i + n ≤ length self.now.bytes.items) }
         ensures at { IfOk result (λ i. at ≡ self.now.base + i) }
-        ensures missing { IfErr result (λ bus. read (bytes_from self.now.base self.now.bytes.items) at n ≡ Err bus.at) }
+        ensures missing { IfErr result
+            (λ bus. read (bytes_from self.now.base self.now.bytes.items) at n ≡ Err bus.at) }
     {
         let len = self.bytes.as_slice().len();
         if at < self.base || at - self.base >= len as u64 {

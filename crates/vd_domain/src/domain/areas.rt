@@ -28,7 +28,8 @@ impl Domain {
     /// Makes an area of zeros in place of the earlier one.
     pub fn new_area(&mut self, bytes: u64) -> Result<(), AreaError>
         ensures busy { result ≡ Err AreaError.Busy ↔ (is_some self.old.bounce.user ≡ true) }
-        ensures ok { (x : Setting) (acts : List Act) (m : PoolMemory) → Stands x acts self.old m → OnOk result (Stands x (Node (Area_made bytes) ∷ acts) self.new m) }
+        ensures ok { (x : Setting) (acts : List Act) (m : PoolMemory) → Stands x acts self.old m →
+            OnOk result (Stands x (Node (Area_made bytes) ∷ acts) self.new m) }
         ensures err { OnErr result (self.new ≡ self.old) }
         ensures frames { self.new.bounce.frames ≡ self.old.bounce.frames }
         ensures counts { SameCounts self.old self.new }
@@ -39,7 +40,8 @@ impl Domain {
     /// Ends the area, with the session.
     fn drop_area(&mut self)
         requires free { self.old.bounce.user ≡ None }
-        ensures ok { (x : Setting) (acts : List Act) (m : PoolMemory) → Stands x acts self.old m → Stands x (Node Closed ∷ acts) self.new m }
+        ensures ok { (x : Setting) (acts : List Act) (m : PoolMemory) → Stands x acts self.old m →
+            Stands x (Node Closed ∷ acts) self.new m }
         ensures none { (self.new.bounce.user ≡ None) × (self.new.bounce.area ≡ None) }
         ensures frames { self.new.bounce.frames ≡ self.old.bounce.frames }
         ensures counts { SameCounts self.old self.new }
@@ -57,7 +59,8 @@ impl Domain {
     /// Writes the daemon's bytes into the area.
     pub fn area_put(&mut self, offset: u64, bytes: &[u8])
         requires { offset + length bytes.now ≤ length (unwrap_or self.old.bounce.area []) }
-        ensures ok { (x : Setting) (acts : List Act) (m : PoolMemory) → Stands x acts self.old m → Stands x (Node (Area_put offset bytes.now) ∷ acts) self.new m }
+        ensures ok { (x : Setting) (acts : List Act) (m : PoolMemory) → Stands x acts self.old m →
+            Stands x (Node (Area_put offset bytes.now) ∷ acts) self.new m }
         ensures frames { self.new.bounce.frames ≡ self.old.bounce.frames }
         ensures counts { SameCounts self.old self.new }
     {
@@ -67,7 +70,8 @@ impl Domain {
     /// Fills a slice from the area.
     pub fn area_get(&self, offset: u64, out: &mut [u8])
         requires { offset + length out.old ≤ length (unwrap_or self.now.bounce.area []) }
-        ensures { (x : Setting) (acts : List Act) (m : PoolMemory) → Stands x acts self.now m → out.new ≡ area_bytes x.per_page acts offset (length out.old) }
+        ensures { (x : Setting) (acts : List Act) (m : PoolMemory) → Stands x acts self.now m →
+            out.new ≡ area_bytes x.per_page acts offset (length out.old) }
     {
         self.bounce.area_get(offset, out);
     }
@@ -146,7 +150,8 @@ impl Domain {
         requires size { pool.old.per_page ≡ self.old.bounce.per_page }
         requires registered { is_some self.old.bounce.user ≡ true }
         ensures kept { Keeps self.old.bounce.frames self.new.bounce.frames pool.old pool.new }
-        ensures ok { (x : Setting) (acts : List Act) → Stands x acts self.old pool.old → Stands x (Node Deregistered ∷ acts) self.new pool.new }
+        ensures ok { (x : Setting) (acts : List Act) → Stands x acts self.old pool.old →
+            Stands x (Node Deregistered ∷ acts) self.new pool.new }
         ensures free { self.new.bounce.user ≡ None }
         ensures counts { SameCounts self.old self.new }
     {
@@ -170,7 +175,8 @@ impl Domain {
 
 /// Where some bytes from an address on begin in an area of `len` bytes, or none where they don't lie in it.
 fn offset_in(len: u64, uaddr: u64, size: u64) -> Option<u64>
-    ensures { result ≡ (if nat_le area_start uaddr && nat_le (uaddr + size) (area_start + len) then Some (uaddr - area_start) else None) }
+    ensures { result ≡ (if nat_le area_start uaddr
+        && nat_le (uaddr + size) (area_start + len) then Some (uaddr - area_start) else None) }
 {
     if uaddr < AREA_START {
         return None;
@@ -180,29 +186,5 @@ fn offset_in(len: u64, uaddr: u64, size: u64) -> Option<u64>
         Some(offset)
     } else {
         None
-    }
-}
-
-#[cfg(test)]
-mod tests {
-    use super::*;
-    use std::test::Fail;
-
-    #[test]
-    fn registers(rt: HostRuntime) -> Result<(), Fail> {
-        let mut pool = Pool::new(rt.alloc(), 1);
-        let mut domain = Domain::new(rt.alloc(), 2, 4, 1)?;
-        let none = domain.area_len();
-        let made = domain.new_area(0x2000);
-        let len = domain.area_len();
-        let early = domain.reg_umem(&mut pool, 0x1000_0000, 0, 0x2000);
-        let ended = domain.dereg_umem(&mut pool, 0, 0x2000);
-        domain.discard(&mut pool);
-        assert_eq!(rt; none, None);
-        assert_eq!(rt; made, Ok(()));
-        assert_eq!(rt; len, Some(0x2000));
-        assert_eq!(rt; early, Err(Errno::Inval));
-        assert_eq!(rt; ended, Err(Errno::Noent));
-        Ok(())
     }
 }

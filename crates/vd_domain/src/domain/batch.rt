@@ -58,9 +58,11 @@ impl Domain {
         ensures full { (x : Setting) (acts : List Act) → Stands x acts self.old pool.old → result ≡ Err MapError.NoSpace
             → placed_mappings x (taken_slots acts) (maps acts) wants.now ≡ None }
         ensures empty { result ≡ Err MapError.Empty ↔ (list_any (λ w. w.len == 0) wants.now ≡ true) }
-        ensures err { (x : Setting) (acts : List Act) → Stands x acts self.old pool.old → OnErr result (Stands x acts self.new pool.new) }
+        ensures err { (x : Setting) (acts : List Act) → Stands x acts self.old pool.old →
+            OnErr result (Stands x acts self.new pool.new) }
         ensures same { OnErr result (self.new ≡ self.old) }
-        ensures counts { (self.new.maps ≤ self.old.maps + length wants.now) × (self.new.made ≡ self.old.made) }
+        ensures counts { (self.new.maps ≤ self.old.maps + length wants.now)
+            × (self.new.made ≡ self.old.made) }
         ensures page { self.new.bounce.per_page ≡ self.old.bounce.per_page }
     {
         if has_empty(wants) {
@@ -197,35 +199,4 @@ fn show_all(
         text,
     );
     show_all(bounce, uses, pool, wants, booked, bytes);
-}
-
-#[cfg(test)]
-mod tests {
-    use super::*;
-    use std::test::Fail;
-    use vd_model::Dir;
-
-    #[test]
-    fn maps_two(rt: HostRuntime) -> Result<(), Fail> {
-        let mut pool = Pool::new(rt.alloc(), 1);
-        let mut domain = Domain::new(rt.alloc(), 4, 8, 1)?;
-        let wants = [
-            Want {
-                buffer: 0,
-                offset: 0,
-                len: 1,
-                dir: Dir::To,
-            },
-            Want {
-                buffer: 0,
-                offset: 1,
-                len: 2,
-                dir: Dir::To,
-            },
-        ];
-        let first = domain.map_all(&mut pool, &wants, b"abc");
-        domain.discard(&mut pool);
-        assert_eq!(rt; first, Ok(0));
-        Ok(())
-    }
 }

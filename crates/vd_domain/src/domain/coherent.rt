@@ -43,7 +43,8 @@ impl Domain {
         ensures full { (x : Setting) (acts : List Act) (m : PoolMemory) → Stands x acts self.old m → 0 < len
             → result ≡ Err MapError.NoSpace ↔ (place_of (taken_slots acts) (pages_of len) x.bounce x.iova ≡ None) }
         ensures empty { result ≡ Err MapError.Empty ↔ (len ≡ 0) }
-        ensures err { (x : Setting) (acts : List Act) (m : PoolMemory) → Stands x acts self.old m → OnErr result (Stands x acts self.new m) }
+        ensures err { (x : Setting) (acts : List Act) (m : PoolMemory) → Stands x acts self.old m →
+            OnErr result (Stands x acts self.new m) }
         ensures same { OnErr result (self.new ≡ record self.old { store = self.new.store }) }
         ensures bounce { self.new.bounce ≡ self.old.bounce }
         ensures counts { (self.new.maps ≡ self.old.maps) × (self.new.made ≤ self.old.made + 1) }
@@ -77,7 +78,9 @@ impl Domain {
         ensures none { IsErr result ↔ (coherent_of self.old number ≡ None) }
         ensures ok { (x : Setting) (acts : List Act) (m : PoolMemory) (r : Coherent) → coherent_of self.old number ≡ Some r → Stands x acts self.old m
             → Stands x (Driver (Region_freed r) ∷ acts) self.new m }
-        ensures absent { (r : Coherent) (p : ℕ) → coherent_of self.old number ≡ Some r → has_slot (bounce_slots self.old + p) r ≡ true → frame_of self.new.shared.frames p ≡ None }
+        ensures absent { (r : Coherent) (p : ℕ) → coherent_of self.old number ≡ Some r →
+            has_slot (bounce_slots self.old + p) r ≡ true →
+            frame_of self.new.shared.frames p ≡ None }
         ensures err { OnErr result (self.new ≡ self.old) }
         ensures bounce { self.new.bounce ≡ self.old.bounce }
         ensures counts { SameCounts self.old self.new }
@@ -216,7 +219,11 @@ fn lower(first: Option<Region>, region: Region) -> Option<Region>
 fn pages_in(bounce: &BounceMap, region: Extent) -> Pages
     requires low { bounce.now.per_page * length bounce.now.frames ≤ region.slot }
     requires small { region.slot ≤ 65536 }
-    ensures { result ≡ record { first = region.slot - bounce.now.per_page * length bounce.now.frames; count = pages_of region.len } }
+    ensures { result ≡ record {
+      first = region.slot - bounce.now.per_page * length
+          bounce.now.frames;
+      count = pages_of region.len;
+    } }
 {
     let base = bounce.per_page() as u64 * bounce.pages() as u64;
     Pages {
@@ -235,7 +242,8 @@ fn give_back(
 )
     requires holds { Holds shared.old.frames store.old }
     requires low { bounce.now.per_page * length bounce.now.frames ≤ region.slot }
-    requires range { region.slot - bounce.now.per_page * length bounce.now.frames + pages_of region.len ≤ length shared.old.frames }
+    requires range { region.slot - bounce.now.per_page * length bounce.now.frames + pages_of
+        region.len ≤ length shared.old.frames }
     requires small { (region.slot ≤ 65536) × (length shared.old.frames < 2 ^ 32) }
     requires taken { 0 < taken_at high.old region.slot }
     ensures kept { Keeps shared.old.frames shared.new.frames store.old store.new }
@@ -261,7 +269,9 @@ fn release(map: &mut BounceMap, pool: &mut Pool, pages: Pages)
     ensures kept { Keeps map.old.frames map.new.frames pool.old pool.new }
     ensures bytes { (a : ℕ) → value map.new pool.new (b.Iova a)
         ≡ (if is_within pages.first pages.count (a / page_size map.old) then 0 else value map.old pool.old (b.Iova a)) }
-    ensures frames { (p : ℕ) → is_some (frame_of map.new.frames p) ≡ (not (is_within pages.first pages.count p) && is_some (frame_of map.old.frames p)) }
+    ensures frames { (p : ℕ) →
+        is_some (frame_of map.new.frames p)
+        ≡ (not (is_within pages.first pages.count p) && is_some (frame_of map.old.frames p)) }
     ensures same { SameShape map.old map.new }
 {
     for page in pages.first..pages.first + pages.count {

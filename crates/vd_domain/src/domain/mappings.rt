@@ -39,7 +39,8 @@ impl Domain {
         ensures full { (x : Setting) (acts : List Act) → Stands x acts self.old pool.old → result ≡ Err MapError.NoSpace
             → place_of (taken_slots acts) (pages_of want.len) x.per_page x.bounce ≡ None }
         ensures empty { result ≡ Err MapError.Empty ↔ (want.len ≡ 0) }
-        ensures err { (x : Setting) (acts : List Act) → Stands x acts self.old pool.old → OnErr result (Stands x acts self.new pool.new) }
+        ensures err { (x : Setting) (acts : List Act) → Stands x acts self.old pool.old →
+            OnErr result (Stands x acts self.new pool.new) }
         ensures same { OnErr result (self.new ≡ self.old) }
         ensures counts { (self.new.maps ≤ self.old.maps + 1) × (self.new.made ≡ self.old.made) }
         ensures page { self.new.bounce.per_page ≡ self.old.bounce.per_page }
@@ -93,7 +94,8 @@ impl Domain {
             → Stands x (Driver (Unmapped m) ∷ acts) self.new pool.new }
         ensures given { (x : Setting) (acts : List Act) (m : Streaming) → mapping_of self.old number ≡ Some m → Stands x acts self.old pool.old
             → is_from_device m.want.dir ≡ true → out.new ≡ bus_bytes x.per_page acts (iova_of m) m.want.len }
-        ensures left { (m : Streaming) → mapping_of self.old number ≡ Some m → is_from_device m.want.dir ≡ false → out.new ≡ out.old }
+        ensures left { (m : Streaming) → mapping_of self.old number ≡ Some m →
+            is_from_device m.want.dir ≡ false → out.new ≡ out.old }
         ensures err { OnErr result ((self.new ≡ self.old) × (pool.new ≡ pool.old) × (out.new ≡ out.old)) }
         ensures counts { SameCounts self.old self.new }
     {
@@ -121,10 +123,12 @@ impl Domain {
     ) -> Result<(), SyncError>
         requires holds { Holds self.old.bounce.frames pool.old }
         requires size { pool.old.per_page ≡ self.old.bounce.per_page }
-        requires text { (m : Streaming) → mapping_of self.old number ≡ Some m → length bytes.now ≡ m.want.len }
+        requires text { (m : Streaming) → mapping_of self.old number ≡ Some m →
+            length bytes.now ≡ m.want.len }
         ensures kept { Keeps self.old.bounce.frames self.new.bounce.frames pool.old pool.new }
         ensures not_live { result ≡ Err SyncError.NotLive ↔ (mapping_of self.old number ≡ None) }
-        ensures wrong { (m : Streaming) → mapping_of self.old number ≡ Some m → result ≡ Err SyncError.WrongDir ↔ (is_to_device m.want.dir ≡ false) }
+        ensures wrong { (m : Streaming) → mapping_of self.old number ≡ Some m →
+            result ≡ Err SyncError.WrongDir ↔ (is_to_device m.want.dir ≡ false) }
         ensures ok { (x : Setting) (acts : List Act) (m : Streaming) → mapping_of self.old number ≡ Some m → Stands x acts self.old pool.old
             → IsOf x.per_page acts m.want bytes.now → OnOk result (Stands x (Driver (Synced_device m) ∷ acts) self.new pool.new) }
         ensures err { OnErr result ((self.new ≡ self.old) × (pool.new ≡ pool.old)) }
@@ -152,7 +156,8 @@ impl Domain {
         requires size { pool.old.per_page ≡ self.old.bounce.per_page }
         requires room { (m : Streaming) → mapping_of self.old number ≡ Some m → length out.old ≡ m.want.len }
         ensures not_live { result ≡ Err SyncError.NotLive ↔ (mapping_of self.old number ≡ None) }
-        ensures wrong { (m : Streaming) → mapping_of self.old number ≡ Some m → result ≡ Err SyncError.WrongDir ↔ (is_from_device m.want.dir ≡ false) }
+        ensures wrong { (m : Streaming) → mapping_of self.old number ≡ Some m →
+            result ≡ Err SyncError.WrongDir ↔ (is_from_device m.want.dir ≡ false) }
         ensures ok { (x : Setting) (acts : List Act) (m : Streaming) → mapping_of self.old number ≡ Some m → Stands x acts self.old pool.old
             → Stands x (Driver (Synced_cpu m) ∷ acts) self.new pool.new }
         ensures given { (x : Setting) (acts : List Act) (m : Streaming) → mapping_of self.old number ≡ Some m → Stands x acts self.old pool.old

@@ -53,7 +53,8 @@ impl Domain {
 
     /// The first of some addresses that lies in no coherent region.
     fn first_outside(&self, at: u64, len: usize) -> Option<u64>
-        ensures first { (x : Setting) (acts : List Act) (m : PoolMemory) → Stands x acts self.now m → result ≡ first_failing (is_coherent acts) at len }
+        ensures first { (x : Setting) (acts : List Act) (m : PoolMemory) →
+            Stands x acts self.now m → result ≡ first_failing (is_coherent acts) at len }
         ensures above { IfNone result (0 < len → bounce_len self.now.bounce ≤ at) }
         ensures there { IfNone result (IsThere self.now.shared (at - bounce_len self.now.bounce) len) }
     {

@@ -18,7 +18,8 @@ impl Domain {
 
     /// It shows what the acts say that it stands for. It does nothing.
     pub fn sees(&self, pool: &Pool)
-        ensures { (x : Setting) (acts : List Act) → Stands x acts self.now pool.now → daemon_map self.now pool.now ≡ daemon_memory x acts }
+        ensures { (x : Setting) (acts : List Act) → Stands x acts self.now pool.now →
+            daemon_map self.now pool.now ≡ daemon_memory x acts }
     {
         let _pool = pool;
         let _shown = self.is_shown;
@@ -26,21 +27,24 @@ impl Domain {
 
     /// The same of coherent memory alone, over any pool. It does nothing.
     pub fn sees_rings(&self)
-        ensures { (x : Setting) (acts : List Act) (m : PoolMemory) → Stands x acts self.now m → ring_map self.now ≡ ring_memory x acts }
+        ensures { (x : Setting) (acts : List Act) (m : PoolMemory) → Stands x acts self.now m →
+            ring_map self.now ≡ ring_memory x acts }
     {
         let _shown = self.is_shown;
     }
 
     /// Live mappings lie in bounce memory, and live coherent regions behind it. It does nothing.
     pub fn keeps_apart(&self)
-        ensures { (x : Setting) (acts : List Act) (m : PoolMemory) → Stands x acts self.now m → AreApart x acts }
+        ensures { (x : Setting) (acts : List Act) (m : PoolMemory) → Stands x acts self.now m →
+            AreApart x acts }
     {
         let _shown = self.is_shown;
     }
 
     /// Live mappings have numbers of those that were given out. It does nothing.
     pub fn keeps_numbers(&self)
-        ensures { (x : Setting) (acts : List Act) (m : PoolMemory) → Stands x acts self.now m → All (λ l. l.number < maps acts) (live_mappings acts) }
+        ensures { (x : Setting) (acts : List Act) (m : PoolMemory) → Stands x acts self.now m →
+            All (λ l. l.number < maps acts) (live_mappings acts) }
     {
         let _shown = self.is_shown;
     }

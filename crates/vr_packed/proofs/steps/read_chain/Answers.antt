@@ -2,7 +2,7 @@ use Rattle.std.proofs.Common.{◌≡◌, ◌+◌, ◌++◌, ◌∷◌, [], Bool,
 use Rattle.std.proofs.lemmas.List.{take_all}
 use Rattle.vd_model.specs.declared.parts.Part.{Part}
 use Rattle.vr_slots.specs.declared.slot.Slot.{Slot}
-use Rattle.vr_slots.specs.Slots.{slot_at, has_next}
+use Rattle.vr_slots.specs.Slots.{slot_at, slot_goes_on}
 use Rattle.vr_packed.proofs.Loops.{read_part, read-more, record_part, part_with, no_part, next_is, ends_is}
 use Rattle.vr_packed.proofs.steps.read_chain.Goals as goal
 
@@ -10,7 +10,7 @@ pub loop-i-preserved : goal.loop-i-preserved
 loop-i-preserved c = λ id parts some fits lies.
     let before = c.loop-i.invariant id parts some fits lies in
     let r = read_part c.args.slots.now c.args.place id parts c.loop-i.i before.0 before.2 in
-    let more : has_next (slot_at c.args.slots.now (c.args.place + c.loop-i.i)) ≡ true = sym (ap has_next c.get-slot.ensures) ∙ sym c.has_next.ensures ∙ c.if-not-has_next.false in
+    let more : slot_goes_on (slot_at c.args.slots.now (c.args.place + c.loop-i.i)) ≡ true = sym (ap slot_goes_on c.get-slot.ensures) ∙ sym c.has_next.ensures ∙ c.if-not-has_next.false in
     let part : record_part c.get-slot.result ≡ get_or parts c.loop-i.i no_part = ap record_part c.get-slot.ensures ∙ r.part in
     let pushed : c.push.new.self ≡ c.loop-i.into ++ record_part c.get-slot.result ∷ [] =
     c.in_ok-push.ensures.ok ∙ ap (λ (b : Bool). c.loop-i.into ++ part_with (record_part c.get-slot.result) b ∷ []) c.is_writable.ensures in (
@@ -23,7 +23,7 @@ pub returns-then-not-has_next : goal.returns-then-not-has_next
 returns-then-not-has_next c = λ id parts some fits lies.
     let before = c.loop-i.invariant id parts some fits lies in
     let r = read_part c.args.slots.now c.args.place id parts c.loop-i.i before.0 before.2 in
-    let last : has_next (slot_at c.args.slots.now (c.args.place + c.loop-i.i)) ≡ false = sym (ap has_next c.get-slot.ensures) ∙ sym c.has_next.ensures ∙ c.if-not-has_next.true in
+    let last : slot_goes_on (slot_at c.args.slots.now (c.args.place + c.loop-i.i)) ≡ false = sym (ap slot_goes_on c.get-slot.ensures) ∙ sym c.has_next.ensures ∙ c.if-not-has_next.true in
     let part : record_part c.get-slot.result ≡ get_or parts c.loop-i.i no_part = ap record_part c.get-slot.ensures ∙ r.part in
     let pushed : c.push.new.self ≡ c.loop-i.into ++ record_part c.get-slot.result ∷ [] =
     c.in_ok-push.ensures.ok ∙ ap (λ (b : Bool). c.loop-i.into ++ part_with (record_part c.get-slot.result) b ∷ []) c.is_writable.ensures in

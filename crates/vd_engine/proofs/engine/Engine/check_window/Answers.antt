@@ -3,7 +3,7 @@ use Rattle.std.specs.Prelude.{find}
 use Rattle.std.specs.List.{list_any}
 use Rattle.std.specs.Option.{option_map}
 use Rattle.vd_engine.specs.Machine.{FirstIs, NoneIs}
-use Rattle.vd_engine.specs.Windows.{has_window, given_window, meets}
+use Rattle.vd_engine.specs.Windows.{has_window, given_window, shares_sector}
 use Rattle.vd_engine.proofs.Refusals.{none_of, some_of, unfound, image_absent, image_had, image_empty, image_beyond, image_met, image_free}
 use Rattle.vd_engine.proofs.engine.Engine.check_window.Goals as goal
 
@@ -38,14 +38,14 @@ returns-then-is_taken-clause-refusal c = λ x done s.
     let found = some_of _ (λ i. FirstIs c.args.name.now c.deref.result.now i) c.place_of.result c.place_of.ensures c.if-is_none.ensures in
     let there = subst (λ l. FirstIs c.args.name.now l found.0) c.deref.ensures.value found.1 in
     let is = c.window_of.ensures ∙ ap (λ l. option_map given_window (find (has_window c.args.name.now) l)) c.deref-2.ensures.value in
-    image_met x done c.args.self.now s c.args.name.now c.args.first c.args.count found.0 there c.window_of.result is (sym c.if-is_some.ensures) (omega arith) (sym c.if-is_beyond.ensures) (sym (c.if-is_taken.ensures ∙ ap (list_any (meets c.args.first c.args.count)) c.deref-3.ensures.value))
+    image_met x done c.args.self.now s c.args.name.now c.args.first c.args.count found.0 there c.window_of.result is (sym c.if-is_some.ensures) (omega arith) (sym c.if-is_beyond.ensures) (sym (c.if-is_taken.ensures ∙ ap (list_any (shares_sector c.args.first c.args.count)) c.deref-3.ensures.value))
 
 pub returns-clause-refusal : goal.returns-clause-refusal
 returns-clause-refusal c = λ x done s.
     let found = some_of _ (λ i. FirstIs c.args.name.now c.deref.result.now i) c.place_of.result c.place_of.ensures c.if-is_none.ensures in
     let there = subst (λ l. FirstIs c.args.name.now l found.0) c.deref.ensures.value found.1 in
     let is = c.window_of.ensures ∙ ap (λ l. option_map given_window (find (has_window c.args.name.now) l)) c.deref-2.ensures.value in
-    image_free x done c.args.self.now s c.args.name.now c.args.first c.args.count found.0 there c.window_of.result is (sym c.if-is_some.ensures) (omega arith) (sym c.if-is_beyond.ensures) (sym (c.if-is_taken.ensures ∙ ap (list_any (meets c.args.first c.args.count)) c.deref-3.ensures.value))
+    image_free x done c.args.self.now s c.args.name.now c.args.first c.args.count found.0 there c.window_of.result is (sym c.if-is_some.ensures) (omega arith) (sym c.if-is_beyond.ensures) (sym (c.if-is_taken.ensures ∙ ap (list_any (shares_sector c.args.first c.args.count)) c.deref-3.ensures.value))
 
 pub returns-clause-none : goal.returns-clause-none
 returns-clause-none c =
