@@ -6,7 +6,7 @@ ghost use Rattle.vd_words.specs.Gives.{Gives};
 ghost use Rattle.vd_model.specs.AreaLines.{area_form, area_text};
 ghost use Rattle.vd_model.specs.Spelling.{with_name};
 
-use crate::form::read_form;
+use crate::form::{print_forms, read_form};
 use crate::put::{begin, put_hex};
 use std::alloc::AllocError;
 use vd_model::{AreaStep, AreaWord, Bytes, Text};
@@ -48,46 +48,15 @@ pub fn print_area(name: &Text<'_>, step: &AreaStep<'_>, into: &mut Bytes) -> Res
     ensures { OnOk result (into.new
         ≡ into.old ++ join_with_byte 32 (with_name name.now (area_text step.now))) }
 {
-    match step {
-        AreaStep::Lookup { start, last } => begin(
-            into,
-            AreaWord::Lookup.text(),
-            name,
-            &[*start, *last],
-        ),
-        AreaStep::IovaInfo { start, last } => begin(
-            into,
-            AreaWord::IovaInfo.text(),
-            name,
-            &[*start, *last],
-        ),
-        AreaStep::Area { bytes } => begin(into, AreaWord::Area.text(), name, &[*bytes]),
-        AreaStep::AreaPut { offset, bytes } => {
-            begin(into, AreaWord::AreaPut.text(), name, &[*offset])?;
-            put_hex(into, bytes.as_slice())
-        }
-        AreaStep::AreaGet { offset, len } => begin(
-            into,
-            AreaWord::AreaGet.text(),
-            name,
-            &[*offset, *len],
-        ),
-        AreaStep::RegUmem { uaddr, iova, size } => begin(
-            into,
-            AreaWord::RegUmem.text(),
-            name,
-            &[*uaddr, *iova, *size],
-        ),
-        AreaStep::DeregUmem { iova, size } => begin(
-            into,
-            AreaWord::DeregUmem.text(),
-            name,
-            &[*iova, *size],
-        ),
-        AreaStep::Load { addr, len } => begin(into, AreaWord::Load.text(), name, &[*addr, *len]),
-        AreaStep::Store { addr, bytes } => {
-            begin(into, AreaWord::Store.text(), name, &[*addr])?;
-            put_hex(into, bytes.as_slice())
-        }
-    }
+    print_forms!(step of AreaStep, AreaWord, name, into;
+        Lookup { start, last } => [*start, *last];
+        IovaInfo { start, last } => [*start, *last];
+        Area { bytes } => [*bytes];
+        AreaPut { offset, bytes } => [*offset] put_hex(bytes.as_slice());
+        AreaGet { offset, len } => [*offset, *len];
+        RegUmem { uaddr, iova, size } => [*uaddr, *iova, *size];
+        DeregUmem { iova, size } => [*iova, *size];
+        Load { addr, len } => [*addr, *len];
+        Store { addr, bytes } => [*addr] put_hex(bytes.as_slice());
+    )
 }

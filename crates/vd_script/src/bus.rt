@@ -6,7 +6,7 @@ ghost use Rattle.vd_words.specs.Gives.{Gives};
 ghost use Rattle.vd_model.specs.BusLines.{bus_form, bus_text};
 ghost use Rattle.vd_model.specs.Spelling.{with_name};
 
-use crate::form::read_form;
+use crate::form::{print_forms, read_form};
 use crate::put::{begin, put_flag, put_on};
 use std::alloc::AllocError;
 use vd_model::{BusStep, BusWord, Bytes, Text};
@@ -49,79 +49,24 @@ pub fn print_bus(name: &Text<'_>, step: &BusStep, into: &mut Bytes) -> Result<()
     ensures { OnOk result (into.new
         ≡ into.old ++ join_with_byte 32 (with_name name.now (bus_text step.now))) }
 {
-    match step {
-        BusStep::Attach => begin(into, BusWord::Attach.text(), name, &[]),
-        BusStep::Detach => begin(into, BusWord::Detach.text(), name, &[]),
-        BusStep::Offered => begin(into, BusWord::Offered.text(), name, &[]),
-        BusStep::SetFeatures { features } => begin(
-            into,
-            BusWord::SetFeatures.text(),
-            name,
-            &[*features],
-        ),
-        BusStep::GetStatus => begin(into, BusWord::GetStatus.text(), name, &[]),
-        BusStep::SetStatus { status } => begin(
-            into,
-            BusWord::SetStatus.text(),
-            name,
-            &[u64::from(*status)],
-        ),
-        BusStep::Reset => begin(into, BusWord::Reset.text(), name, &[]),
-        BusStep::VqNum { queue, num } => begin(
-            into,
-            BusWord::VqNum.text(),
-            name,
-            &[u64::from(*queue), *num],
-        ),
-        BusStep::VqAddr {
-            queue,
-            desc,
-            driver,
-            device,
-        } => begin(
-            into,
-            BusWord::VqAddr.text(),
-            name,
-            &[u64::from(*queue), *desc, *driver, *device],
-        ),
-        BusStep::VqReady { queue, flag } => {
-            begin(into, BusWord::VqReady.text(), name, &[u64::from(*queue)])?;
-            put_flag(into, *flag)
-        }
-        BusStep::SetVqState { queue, avail } => begin(
-            into,
-            BusWord::SetVqState.text(),
-            name,
-            &[u64::from(*queue), u64::from(*avail)],
-        ),
-        BusStep::GetVqState { queue } => begin(
-            into,
-            BusWord::GetVqState.text(),
-            name,
-            &[u64::from(*queue)],
-        ),
-        BusStep::Kick { queue } => begin(into, BusWord::Kick.text(), name, &[u64::from(*queue)]),
-        BusStep::Callback { on, flag } => {
-            begin(into, BusWord::Callback.text(), name, &[])?;
-            put_on(into, *on)?;
-            put_flag(into, *flag)
-        }
-        BusStep::Irqs { on } => {
-            begin(into, BusWord::Irqs.text(), name, &[])?;
-            put_on(into, *on)
-        }
-        BusStep::GetConfig { offset, len } => begin(
-            into,
-            BusWord::GetConfig.text(),
-            name,
-            &[*offset, *len],
-        ),
-        BusStep::Timeout { seconds } => begin(
-            into,
-            BusWord::Timeout.text(),
-            name,
-            &[u64::from(*seconds)],
-        ),
-        BusStep::Take { id } => begin(into, BusWord::Take.text(), name, &[u64::from(*id)]),
-    }
+    print_forms!(step of BusStep, BusWord, name, into;
+        Attach {} => [];
+        Detach {} => [];
+        Offered {} => [];
+        SetFeatures { features } => [*features];
+        GetStatus {} => [];
+        SetStatus { status } => [u64::from(*status)];
+        Reset {} => [];
+        VqNum { queue, num } => [u64::from(*queue), *num];
+        VqAddr { queue, desc, driver, device } => [u64::from(*queue), *desc, *driver, *device];
+        VqReady { queue, flag } => [u64::from(*queue)] put_flag(*flag);
+        SetVqState { queue, avail } => [u64::from(*queue), u64::from(*avail)];
+        GetVqState { queue } => [u64::from(*queue)];
+        Kick { queue } => [u64::from(*queue)];
+        Callback { on, flag } => [] put_on(*on), put_flag(*flag);
+        Irqs { on } => [] put_on(*on);
+        GetConfig { offset, len } => [*offset, *len];
+        Timeout { seconds } => [u64::from(*seconds)];
+        Take { id } => [u64::from(*id)];
+    )
 }

@@ -6,7 +6,7 @@ ghost use Rattle.vd_words.specs.Gives.{Gives};
 ghost use Rattle.vd_model.specs.DriverLines.{driver_form, driver_text};
 ghost use Rattle.vd_model.specs.Spelling.{with_name};
 
-use crate::form::read_form;
+use crate::form::{print_forms, read_form};
 use crate::put::{begin, put_dir, put_hex};
 use std::alloc::AllocError;
 use vd_model::{Bytes, DriverStep, DriverWord, Text};
@@ -56,82 +56,19 @@ pub fn print_driver(
     ensures { OnOk result (into.new
         ≡ into.old ++ join_with_byte 32 (with_name name.now (driver_text step.now))) }
 {
-    match step {
-        DriverStep::Buf { bytes } => {
-            begin(into, DriverWord::Buf.text(), name, &[])?;
-            put_hex(into, bytes.as_slice())
-        }
-        DriverStep::Zeros { len } => begin(into, DriverWord::Zeros.text(), name, &[*len]),
-        DriverStep::Free { buffer } => begin(into, DriverWord::Free.text(), name, &[*buffer]),
-        DriverStep::Poke {
-            buffer,
-            offset,
-            bytes,
-        } => {
-            begin(into, DriverWord::Poke.text(), name, &[*buffer, *offset])?;
-            put_hex(into, bytes.as_slice())
-        }
-        DriverStep::Peek {
-            buffer,
-            offset,
-            len,
-        } => begin(
-            into,
-            DriverWord::Peek.text(),
-            name,
-            &[*buffer, *offset, *len],
-        ),
-        DriverStep::Map {
-            buffer,
-            offset,
-            len,
-            dir,
-        } => {
-            begin(
-                into,
-                DriverWord::Map.text(),
-                name,
-                &[*buffer, *offset, *len],
-            )?;
-            put_dir(into, *dir)
-        }
-        DriverStep::Unmap { mapping } => begin(into, DriverWord::Unmap.text(), name, &[*mapping]),
-        DriverStep::SyncDev { mapping } => begin(
-            into,
-            DriverWord::SyncDev.text(),
-            name,
-            &[*mapping],
-        ),
-        DriverStep::SyncCpu { mapping } => begin(
-            into,
-            DriverWord::SyncCpu.text(),
-            name,
-            &[*mapping],
-        ),
-        DriverStep::Coherent { len } => begin(into, DriverWord::Coherent.text(), name, &[*len]),
-        DriverStep::FreeCoherent { region } => begin(
-            into,
-            DriverWord::FreeCoherent.text(),
-            name,
-            &[*region],
-        ),
-        DriverStep::Cput {
-            region,
-            offset,
-            bytes,
-        } => {
-            begin(into, DriverWord::Cput.text(), name, &[*region, *offset])?;
-            put_hex(into, bytes.as_slice())
-        }
-        DriverStep::Cget {
-            region,
-            offset,
-            len,
-        } => begin(
-            into,
-            DriverWord::Cget.text(),
-            name,
-            &[*region, *offset, *len],
-        ),
-    }
+    print_forms!(step of DriverStep, DriverWord, name, into;
+        Buf { bytes } => [] put_hex(bytes.as_slice());
+        Zeros { len } => [*len];
+        Free { buffer } => [*buffer];
+        Poke { buffer, offset, bytes } => [*buffer, *offset] put_hex(bytes.as_slice());
+        Peek { buffer, offset, len } => [*buffer, *offset, *len];
+        Map { buffer, offset, len, dir } => [*buffer, *offset, *len] put_dir(*dir);
+        Unmap { mapping } => [*mapping];
+        SyncDev { mapping } => [*mapping];
+        SyncCpu { mapping } => [*mapping];
+        Coherent { len } => [*len];
+        FreeCoherent { region } => [*region];
+        Cput { region, offset, bytes } => [*region, *offset] put_hex(bytes.as_slice());
+        Cget { region, offset, len } => [*region, *offset, *len];
+    )
 }

@@ -18,5 +18,6 @@ mod queue;
 mod read;
 
 pub use print::print_step;
+pub use queue::read_parts;
 pub use read::read_line;
 pub use vd_words::LineError;

@@ -6,7 +6,7 @@ ghost use Rattle.vd_words.specs.Gives.{Gives};
 ghost use Rattle.vd_model.specs.NodeLines.{node_form, node_text};
 ghost use Rattle.vd_model.specs.Spelling.{with_name};
 
-use crate::form::read_form;
+use crate::form::{print_forms, read_form};
 use crate::put::{begin, put_flag, put_hex, put_optional_hex};
 use std::alloc::AllocError;
 use vd_model::{Bytes, NodeStep, NodeWord, Text};
@@ -50,53 +50,21 @@ pub fn print_node(name: &Text<'_>, step: &NodeStep<'_>, into: &mut Bytes) -> Res
     ensures { OnOk result (into.new
         ≡ into.old ++ join_with_byte 32 (with_name name.now (node_text step.now))) }
 {
-    match step {
-        NodeStep::Open => begin(into, NodeWord::Open.text(), name, &[]),
-        NodeStep::Close => begin(into, NodeWord::Close.text(), name, &[]),
-        NodeStep::Features => begin(into, NodeWord::Features.text(), name, &[]),
-        NodeStep::SetConfig { offset, bytes } => {
-            begin(into, NodeWord::SetConfig.text(), name, &[*offset])?;
-            put_hex(into, bytes.as_slice())
-        }
-        NodeStep::ConfigIrq => begin(into, NodeWord::ConfigIrq.text(), name, &[]),
-        NodeStep::VqSetup { queue, max } => begin(
-            into,
-            NodeWord::VqSetup.text(),
-            name,
-            &[u64::from(*queue), u64::from(*max)],
-        ),
-        NodeStep::VqInfo { queue } => begin(
-            into,
-            NodeWord::VqInfo.text(),
-            name,
-            &[u64::from(*queue)],
-        ),
-        NodeStep::KickFd { queue, flag } => {
-            begin(into, NodeWord::KickFd.text(), name, &[u64::from(*queue)])?;
-            put_flag(into, *flag)
-        }
-        NodeStep::Kicks { queue } => begin(
-            into,
-            NodeWord::Kicks.text(),
-            name,
-            &[u64::from(*queue)],
-        ),
-        NodeStep::Irq { queue } => begin(into, NodeWord::Irq.text(), name, &[u64::from(*queue)]),
-        NodeStep::Recv => begin(into, NodeWord::Recv.text(), name, &[]),
-        NodeStep::Answer { id, reply, avail } => begin(
-            into,
-            NodeWord::Answer.text(),
-            name,
-            &[u64::from(*id), u64::from(*reply), u64::from(*avail)],
-        ),
-        NodeStep::Read { len } => begin(into, NodeWord::Read.text(), name, &[u64::from(*len)]),
-        NodeStep::Write { bytes } => {
-            begin(into, NodeWord::Write.text(), name, &[])?;
-            put_hex(into, bytes.as_slice())
-        }
-        NodeStep::Ioctl { number, bytes } => {
-            begin(into, NodeWord::Ioctl.text(), name, &[*number])?;
-            put_optional_hex(into, bytes)
-        }
-    }
+    print_forms!(step of NodeStep, NodeWord, name, into;
+        Open {} => [];
+        Close {} => [];
+        Features {} => [];
+        SetConfig { offset, bytes } => [*offset] put_hex(bytes.as_slice());
+        ConfigIrq {} => [];
+        VqSetup { queue, max } => [u64::from(*queue), u64::from(*max)];
+        VqInfo { queue } => [u64::from(*queue)];
+        KickFd { queue, flag } => [u64::from(*queue)] put_flag(*flag);
+        Kicks { queue } => [u64::from(*queue)];
+        Irq { queue } => [u64::from(*queue)];
+        Recv {} => [];
+        Answer { id, reply, avail } => [u64::from(*id), u64::from(*reply), u64::from(*avail)];
+        Read { len } => [u64::from(*len)];
+        Write { bytes } => [] put_hex(bytes.as_slice());
+        Ioctl { number, bytes } => [*number] put_optional_hex(bytes);
+    )
 }

@@ -43,7 +43,7 @@ pub fn put_number(into: &mut Bytes, number: u64) -> Result<(), AllocError>
 }
 
 /// Numbers in decimal, each behind a space.
-fn put_numbers(into: &mut Bytes, numbers: &[u64]) -> Result<(), AllocError>
+pub fn put_numbers(into: &mut Bytes, numbers: &[u64]) -> Result<(), AllocError>
     ensures { OnOk result (into.new ≡ into.old ++ behind 32 (map decimal numbers.now)) }
 {
     for number in numbers {
@@ -65,14 +65,6 @@ pub fn begin(
     into.extend_from_slice(first)?;
     put_name(into, device)?;
     put_numbers(into, numbers)
-}
-
-/// Two numbers, each behind a space.
-pub fn put_two(into: &mut Bytes, first: u64, second: u64) -> Result<(), AllocError>
-    ensures { OnOk result (into.new ≡ into.old ++ ((32 ∷ decimal first) ++ (32 ∷ decimal second))) }
-{
-    put_number(into, first)?;
-    put_number(into, second)
 }
 
 /// Two lower-case digits for each byte.

@@ -8,7 +8,7 @@ ghost use Rattle.vd_model.specs.Spelling.{with_name};
 ghost use Rattle.vd_model.specs.Forms.{part_field, parts_form, submit_form};
 ghost use Rattle.vd_model.specs.declared.step.QueueStep.TheVariants.{Add, Submit};
 
-use crate::form::read_form;
+use crate::form::{print_forms, read_form};
 use crate::put::{begin, put_parts, put_submit_form};
 use std::alloc::{AllocError, Global};
 use vd_model::{Bytes, Part, Parts, QueueStep, QueueWord, SubmitForm, Text};
@@ -26,7 +26,8 @@ fn part_of(word: &[u8]) -> Result<Part, LineError>
     fields.done(part)
 }
 
-fn parts(alloc: Global, words: &mut Words<'_>) -> Result<Parts, LineError>
+/// The parts of a chain that the words say: 1 to 64, with no word left behind them.
+pub fn read_parts(alloc: Global, words: &mut Words<'_>) -> Result<Parts, LineError>
     ensures { Gives result (parts_form words.old) }
 {
     let mut parts = Parts::new(alloc);
@@ -80,7 +81,7 @@ pub fn queue_step(
         QueueWord::Unring => read_form!(words => QueueStep::Unring { queue: u32() }),
         QueueWord::Add => Ok(QueueStep::Add {
             queue: words.u32()?,
-            parts: parts(alloc, words)?,
+            parts: read_parts(alloc, words)?,
         }),
         QueueWord::Publish => read_form!(words => QueueStep::Publish { queue: u32() }),
         QueueWord::Submit => Ok(QueueStep::Submit {
@@ -117,56 +118,16 @@ pub fn print_queue(name: &Text<'_>, step: &QueueStep, into: &mut Bytes) -> Resul
     ensures { OnOk result (into.new
         ≡ into.old ++ join_with_byte 32 (with_name name.now (queue_text step.now))) }
 {
-    match step {
-        QueueStep::Walk { queue, head } => begin(
-            into,
-            QueueWord::Walk.text(),
-            name,
-            &[u64::from(*queue), u64::from(*head)],
-        ),
-        QueueStep::Fetch { queue } => begin(
-            into,
-            QueueWord::Fetch.text(),
-            name,
-            &[u64::from(*queue)],
-        ),
-        QueueStep::Execute { queue } => begin(
-            into,
-            QueueWord::Execute.text(),
-            name,
-            &[u64::from(*queue)],
-        ),
-        QueueStep::Finish { queue } => begin(
-            into,
-            QueueWord::Finish.text(),
-            name,
-            &[u64::from(*queue)],
-        ),
-        QueueStep::Ring { queue, size } => begin(
-            into,
-            QueueWord::Ring.text(),
-            name,
-            &[u64::from(*queue), *size],
-        ),
-        QueueStep::Unring { queue } => begin(
-            into,
-            QueueWord::Unring.text(),
-            name,
-            &[u64::from(*queue)],
-        ),
+    print_forms!(step of QueueStep, QueueWord, name, into;
+        Walk { queue, head } => [u64::from(*queue), u64::from(*head)];
+        Fetch { queue } => [u64::from(*queue)];
+        Execute { queue } => [u64::from(*queue)];
+        Finish { queue } => [u64::from(*queue)];
+        Ring { queue, size } => [u64::from(*queue), *size];
+        Unring { queue } => [u64::from(*queue)];
+        Publish { queue } => [u64::from(*queue)];
+        Poll { queue } => [u64::from(*queue)];
         QueueStep::Add { queue, parts } => put_add(name, *queue, parts, into),
-        QueueStep::Publish { queue } => begin(
-            into,
-            QueueWord::Publish.text(),
-            name,
-            &[u64::from(*queue)],
-        ),
         QueueStep::Submit { queue, form } => put_submit(name, *queue, form, into),
-        QueueStep::Poll { queue } => begin(
-            into,
-            QueueWord::Poll.text(),
-            name,
-            &[u64::from(*queue)],
-        ),
-    }
+    )
 }
