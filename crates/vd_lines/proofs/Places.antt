@@ -85,8 +85,8 @@ at_leads text done line r left at =
     record { after = from.0; lines_are = from.1 ∙ append_assoc done (line ∷ []) from.0 }
 
 pub leads_long : (text : List ℕ) (done : List (List ℕ)) (line : List ℕ) → Leads text done line → 65536 < length line → StopsLong text done
-leads_long text done line l long = λ good.
-    (stop_long text done line l.after l.lines_are good (long_bad line long) long, good_are text done line l.after l.lines_are good (long_bad line long))
+leads_long text done line l long = λ reads good.
+    (stop_long reads text done line l.after l.lines_are good (long_bad reads line long) long, good_are reads text done line l.after l.lines_are good (long_bad reads line long))
 
 module _ (text : List ℕ) (done : List (List ℕ)) (r : Ahead) (told left : Option (List ℕ)) (at : IsAt text done r told) where
   -- the source has no more
@@ -148,7 +148,7 @@ module _ (text : List ℕ) (done : List (List ℕ)) (r : Ahead) (told left : Opt
         leads_long text done l.line (record { after = l.after; lines_are = are ∙ ap (λ o. done ++ o) l.lines_are }) (omega (arith, length_is, long))
 
     no_line : 67108864 < length text → script_lines text ≡ done → StopsLong text done
-    no_line past are = λ good. (stop_limit text done are good past, all_good text done are good)
+    no_line past are = λ reads good. (stop_limit reads text done are good past, all_good reads text done are good)
 
     cut_is : 67108864 < length text → script_lines text ≡ done ++ ended_lines (r.pending ++ take (67108864 - length at.seen - length r.pending) at.rest)
     cut_is past =
@@ -180,7 +180,7 @@ module _ (text : List ℕ) (done : List (List ℕ)) (r : Ahead) (told left : Opt
       script_cut text large ∙ ap (λ t. ended_lines (take 67108864 t)) whole ∙ ap ended_lines (take_past (at.seen ++ r.pending) at.rest 67108864 fits)
       ∙ ap (λ n. ended_lines ((at.seen ++ r.pending) ++ take n at.rest)) none ∙ ap ended_lines (append-nil (at.seen ++ r.pending))
       ∙ at.cuts.whole r.pending ∙ ap (λ l. done ++ l) (ended_lines_last r.pending one) ∙ append-nil done in
-      λ good. (stop_limit text done are good large, all_good text done are good)
+      λ reads good. (stop_limit reads text done are good large, all_good reads text done are good)
 
   -- a fault
   pub at_fault : (new : Ahead) (fault : ReadFault) → IsOneLine r.pending → length r.pending ≤ 65536 → IsFilled r new told left (Err fault) → IsNext text done new left (Err fault)

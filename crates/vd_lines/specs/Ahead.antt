@@ -13,6 +13,10 @@ pub record Ahead : Type 0 where
 abbrev pub IsOneLine : List ℕ → Type 0
 IsOneLine bytes = (k : ℕ) → k < length bytes → slice_index bytes k ≢ 10
 
+-- none of the bytes from i up to j is an LF
+abbrev pub HasNoneBetween : List ℕ → ℕ → ℕ → Type 0
+HasNoneBetween bytes i j = (k : ℕ) → i ≤ k → k < j → slice_index bytes k ≢ 10
+
 -- n bytes more were taken from what is left
 abbrev pub IsFilledBy : ℕ → Ahead → Ahead → Option (List ℕ) → Option (List ℕ) → Type 0
 IsFilledBy n old new None left = Unit {0}

@@ -2,7 +2,7 @@
 use Rattle.std.specs.Prelude.{ℕ, ◌+◌, ◌≤◌, ◌≡◌, List, [], ◌∷◌, ◌++◌, length, drop, nat_le, Bool, true, Option, Some, Result, Ok, Err}
 use Rattle.std.specs.List.{list_all}
 use Rattle.vd_model.specs.Reading.{lines}
-use Rattle.vd_output.specs.Out.{ended_lines, script_lines, is_good, good_lines, stop_of, Too_long, text_limit, line_limit}
+use Rattle.vd_output.specs.Out.{ended_lines, script_lines, is_good_in, good_lines_in, stop_in, Too_long, text_limit, line_limit}
 use Rattle.vd_lines.specs.declared.reader.Next.{Next}
 use Rattle.vd_lines.specs.declared.reader.Next.TheVariants.{Line, Last, End}
 use Rattle.vd_lines.specs.declared.reader.ReadFault.{ReadFault}
@@ -50,9 +50,9 @@ pub record IsTaken (text : List ℕ) (done : List (List ℕ)) (left : Option (Li
   pub within : length taken ≤ text_limit
   pub open_line : list_all is_short (drop (length done) (lines taken)) ≡ true
 
--- the run stops at a line that is too long, or at the limit
+-- whatever the grammar is, the run stops at a line that is too long, or at the limit
 abbrev pub StopsLong : List ℕ → List (List ℕ) → Type 0
-StopsLong text done = list_all is_good done ≡ true → (stop_of text ≡ Too_long (length done + 1)) × (good_lines text ≡ done)
+StopsLong text done = (reads : List ℕ → Bool) → list_all (is_good_in reads) done ≡ true → (stop_in reads text ≡ Too_long (length done + 1)) × (good_lines_in reads text ≡ done)
 
 abbrev pub IsNext : List ℕ → List (List ℕ) → Ahead → Option (List ℕ) → Result Next ReadFault → Type 0
 IsNext text done new left (Ok Line) = IsAt text (done ++ new.line ∷ []) new left × Leads text done new.line × (length new.line ≤ 65536)

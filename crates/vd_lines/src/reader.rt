@@ -48,18 +48,20 @@ pub struct LineReader {
     start: usize,
     len: usize,
     next: usize,
+    /// Up to here no LF was found behind `next`.
+    searched: usize,
     taken: usize,
 }
 
 impl Model for LineReader {
     ghost use Rattle.std.specs.Prelude.{◌≤◌, ◌+◌, take, drop, length};
-    ghost use Rattle.vd_lines.specs.Ahead.{Ahead};
+    ghost use Rattle.vd_lines.specs.Ahead.{Ahead, HasNoneBetween};
 
     ghost Value = { Ahead };
 
     ghost view = { λ r. record { line = take r.len (drop r.start r.buffer.items); pending = drop r.next r.buffer.items; taken = r.taken } };
 
-    ghost invariant = { λ r. (r.start + r.len ≤ length r.buffer.items) × (r.next ≤ length r.buffer.items) × (r.taken ≤ 67108864) };
+    ghost invariant = { λ r. (r.start + r.len ≤ length r.buffer.items) × (r.next ≤ r.searched) × (r.searched ≤ length r.buffer.items) × HasNoneBetween r.buffer.items r.next r.searched × (r.taken ≤ 67108864) };
 }
 
 /// Where the first LF is.
@@ -83,6 +85,7 @@ impl LineReader {
             start: 0,
             len: 0,
             next: 0,
+            searched: 0,
             taken: 0,
         }
     }
@@ -101,12 +104,17 @@ impl LineReader {
             ((self.old.pending ≡ self.new.line ++ (10 ∷ self.new.pending)) × IsOneLine self.new.line × (self.new.taken ≡ self.old.taken))
             ((self.new ≡ self.old) × IsOneLine self.old.pending) }
     {
-        match line_end(&self.buffer[self.next..]) {
-            None => false,
-            Some(len) => {
+        match line_end(&self.buffer[self.searched..]) {
+            None => {
+                self.searched = self.buffer.len();
+                false
+            }
+            Some(more) => {
+                let end = self.searched + more;
                 self.start = self.next;
-                self.len = len;
-                self.next += len + 1;
+                self.len = end - self.next;
+                self.next = end + 1;
+                self.searched = end + 1;
                 true
             }
         }
@@ -125,6 +133,7 @@ impl LineReader {
         self.start = self.next;
         self.len = len;
         self.next += len;
+        self.searched = self.next;
         true
     }
 
@@ -138,6 +147,7 @@ impl LineReader {
             self.buffer = rest;
             self.start = 0;
             self.len = 0;
+            self.searched -= self.next;
             self.next = 0;
         }
         Ok(())

@@ -6,7 +6,9 @@
 #![tactic(auto)]
 
 mod options;
+mod programs;
 mod words;
 
 pub use options::Options;
+pub use programs::{QueueOptions, RingKind, read_guest, read_queue};
 pub use words::{WordsError, read_numbers, read_words};

@@ -48,7 +48,7 @@ pub struct Chosen {
 
 /// The number of decimal digits, if it is at most `hi`.
 fn digits(text: &[u8], hi: u32) -> Option<u32>
-    requires { hi ≤ 2 ^ 17 }
+    requires { hi ≤ 2 ^ 28 }
     ensures { result ≡ between 0 hi (decimal_from 0 text.now) }
 {
     let mut n = 0;
@@ -65,8 +65,8 @@ fn digits(text: &[u8], hi: u32) -> Option<u32>
 }
 
 /// The decimal number without leading zeros, if it is from `lo` to `hi`.
-fn number(text: &[u8], lo: u32, hi: u32) -> Option<u32>
-    requires { hi ≤ 2 ^ 17 }
+pub fn number(text: &[u8], lo: u32, hi: u32) -> Option<u32>
+    requires { hi ≤ 2 ^ 28 }
     ensures { result ≡ between lo hi (decimal_of text.now) }
 {
     match text {

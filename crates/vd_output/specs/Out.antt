@@ -28,13 +28,25 @@ ended_lines (b ∷ bytes) = if b == 10 then [] ∷ ended_lines bytes else onto_f
 abbrev pub script_lines : List ℕ → List (List ℕ)
 script_lines text = if nat_le (length text) text_limit then lines text else ended_lines (take text_limit text)
 
--- the line is short enough and in the grammar
-abbrev pub is_good : List ℕ → Bool
-is_good line = nat_le (length line) line_limit && is_some (reading line)
+-- the line is short enough, and in a grammar
+abbrev pub is_good_in : (List ℕ → Bool) → List ℕ → Bool
+is_good_in reads line = nat_le (length line) line_limit && reads line
 
--- the lines before the one that stops the run
+-- of a text with lines of a grammar, the lines before the one that stops the run
+abbrev pub good_lines_in : (List ℕ → Bool) → List ℕ → List (List ℕ)
+good_lines_in reads text = take_while (is_good_in reads) (script_lines text)
+
+-- the line is in the grammar of scripts
+abbrev pub is_script_line : List ℕ → Bool
+is_script_line line = is_some (reading line)
+
+-- the line is short enough and in that grammar
+abbrev pub is_good : List ℕ → Bool
+is_good line = is_good_in is_script_line line
+
+-- the lines of a script before the one that stops the run
 abbrev pub good_lines : List ℕ → List (List ℕ)
-good_lines text = take_while is_good (script_lines text)
+good_lines text = good_lines_in is_script_line text
 
 -- why a run stops: at the end, at a line that isn't in the grammar, or at one that is too long or that holds the
 -- first byte past the limit; lines are counted from 1
@@ -48,9 +60,13 @@ abbrev pub stop_at : ℕ → List (List ℕ) → Bool → Stop
 stop_at n [] more = if more then Too_long (n + 1) else At_the_end
 stop_at n (line ∷ rest) more = if nat_le (length line) line_limit then Not_in_grammar (n + 1) else Too_long (n + 1)
 
+-- the stop in a text with lines of a grammar
+abbrev pub stop_in : (List ℕ → Bool) → List ℕ → Stop
+stop_in reads text =
+    stop_at (length (good_lines_in reads text)) (drop (length (good_lines_in reads text)) (script_lines text)) (nat_lt text_limit (length text))
+
 abbrev pub stop_of : List ℕ → Stop
-stop_of text =
-    stop_at (length (good_lines text)) (drop (length (good_lines text)) (script_lines text)) (nat_lt text_limit (length text))
+stop_of text = stop_in is_script_line text
 
 -- the image failed at line n
 abbrev pub has_failed : List ℕ → ℕ → Bool

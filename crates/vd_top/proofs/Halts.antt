@@ -5,7 +5,7 @@ use Rattle.std.proofs.lemmas.List.{take-append-le}
 use Rattle.std.proofs.lemmas.Bool.Decides.{leb_tells}
 use Rattle.vd_model.specs.Setting.{Setting}
 use Rattle.vd_model.specs.Reading.{reading}
-use Rattle.vd_output.specs.Out.{is_good, good_lines, script_lines, history_after}
+use Rattle.vd_output.specs.Out.{is_script_line, is_good, good_lines, script_lines, history_after}
 use Rattle.vd_lines.specs.IsAt.{IsAt, Leads, IsRead, IsTaken, StopsLong}
 use Rattle.vd_lines.specs.Ahead.{Ahead}
 use Rattle.vd_lines.proofs.Places.{script_from}
@@ -153,7 +153,7 @@ module _ (text : List ℕ) (lines : ℕ) (engine : Engine) (p : Player) (old now
       → StoppedBy stop written (reading line) lines p new now next size content reached → Played text stop written engine new later old next size before reached
   stop_line line after BadLine written new later next reached are short (is, none, f, u) =
       subst (λ n. PlayedTo text BadLine n engine new later old next size before reached) (sym is)
-      (stop_with BadLine later new next reached (stop_bad text g.done line after are g.good (bad_line line none) short, good_are text g.done line after are g.good (bad_line line none)) f u)
+      (stop_with BadLine later new next reached (stop_bad is_script_line text g.done line after are g.good (bad_line line none) short, good_are is_script_line text g.done line after are g.good (bad_line line none)) f u)
   stop_line line after Memory written new later next reached are short (is, f, inl u) =
       subst (λ n. PlayedTo text Memory n engine new later old next size before reached) (sym is) (stop_with Memory later new next reached tt f u)
   stop_line line after Memory written new later next reached are short (is, f, inr u) =
@@ -165,13 +165,13 @@ module _ (text : List ℕ) (lines : ℕ) (engine : Engine) (p : Player) (old now
   stop_line line after TooLong written new later next reached are short none = absurd none
 
   pub stop_end : (later : Option (List ℕ)) → IsRead text g.done later → Played text End lines engine p later old now size before content
-  stop_end later read = stop_here End later (stop_none text g.done read.lines_are g.good read.short, all_good text g.done read.lines_are g.good, read.none_left)
+  stop_end later read = stop_here End later (stop_none is_script_line text g.done read.lines_are g.good read.short, all_good is_script_line text g.done read.lines_are g.good, read.none_left)
 
   pub stop_failed : (later : Option (List ℕ)) → IsTaken text g.done later → Played text SourceFailed lines engine p later old now size before content
   stop_failed later taken = stop_here SourceFailed later taken
 
   pub stop_long : (later : Option (List ℕ)) → StopsLong text g.done → Played text TooLong lines engine p later old now size before content
-  stop_long later long = stop_here TooLong later (long g.good)
+  stop_long later long = stop_here TooLong later (long is_script_line g.good)
 
   pub stop_memory : (later : Option (List ℕ)) → Played text Memory lines engine p later old now size before content
   stop_memory later = stop_here Memory later tt
@@ -184,7 +184,7 @@ first_of text done reader left at good =
     (take_while is_good from.0, good_from text done from.0 from.1 good)
 
 pub first_read : (text : List ℕ) (done : List (List ℕ)) (left : Option (List ℕ)) → IsRead text done left → list_all is_good done ≡ true → good_lines text ≡ done ++ []
-first_read text done left read good = all_good text done read.lines_are good ∙ sym (append-nil done)
+first_read text done left read good = all_good is_script_line text done read.lines_are good ∙ sym (append-nil done)
 
 -- ---- the loop
 

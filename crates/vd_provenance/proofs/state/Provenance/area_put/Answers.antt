@@ -1,0 +1,6 @@
+use Rattle.std.proofs.lemmas.Result.{on_ok_weaker}
+use Rattle.vd_provenance.proofs.Following.{area_put_follows}
+use Rattle.vd_provenance.proofs.state.Provenance.area_put.Goals as goal
+
+pub returns : goal.returns
+returns c g acts bytes f long = on_ok_weaker _ (λ p. area_put_follows g acts c.args.at c.args.len bytes _ _ f long p) c.set_area.ensures

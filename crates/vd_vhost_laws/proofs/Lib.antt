@@ -1,0 +1,6 @@
+mod Found
+mod Accesses
+mod Leaves
+mod Changes
+pub mod Law
+mod Computed
