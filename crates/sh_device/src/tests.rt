@@ -14,6 +14,7 @@ use std::process::Abort;
 use std::sync::Wait;
 use std::test::Fail;
 use std::thread::{Threads, join, join_mut, yield_now};
+use vd_model::Sent;
 use vd_num::Bus;
 
 /// How often the driver maps, and how often the daemon loads.
@@ -273,7 +274,7 @@ fn messages<N: Naming + Send + Sync, R: Threads + Wait + Abort + Sync>(
     let (sent, accepted) = join(
         rt,
         || device.send_and_wait(rt, body),
-        || answer_one(rt, device),
+        || answer_again(rt, device),
     );
     assert!(rt; accepted?);
     let done = TakeAnswer::Done { body, avail: 0 };
@@ -285,11 +286,21 @@ fn messages<N: Naming + Send + Sync, R: Threads + Wait + Abort + Sync>(
     Ok(())
 }
 
-/// Receives the one message that is sent, and answers it with 0.
-fn answer_one<N: Naming>(rt: &impl Wait, device: &Device<N>) -> Result<bool, AllocError> {
+/// Receives the one message that is sent, loses it as a daemon does that ends, and answers it with 0
+/// when it has come again.
+fn answer_again<N: Naming>(rt: &impl Wait, device: &Device<N>) -> Result<bool, AllocError> {
+    let first = receive(rt, device)?;
+    device.lost(rt)?;
+    let again = receive(rt, device)?;
+    let answered = device.answer(rt, again.id, 0, 0)?.value;
+    Ok(answered && again.id == first.id)
+}
+
+/// Waits for a message.
+fn receive<N: Naming>(rt: &impl Wait, device: &Device<N>) -> Result<Sent, AllocError> {
     for _ in rt.forever() {
         if let Some(sent) = device.recv(rt)?.value {
-            return Ok(device.answer(rt, sent.id, 0, 0)?.value);
+            return Ok(sent);
         }
         yield_now();
     }
