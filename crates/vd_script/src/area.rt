@@ -48,7 +48,7 @@ pub fn print_area(name: &Text<'_>, step: &AreaStep<'_>, into: &mut Bytes) -> Res
     ensures { OnOk result (into.new
         ≡ into.old ++ join_with_byte 32 (with_name name.now (area_text step.now))) }
 {
-    print_forms!(step of AreaStep, AreaWord, name, into;
+    print_forms!(step of AreaStep, AreaWord, name, into, {};
         Lookup { start, last } => [*start, *last];
         IovaInfo { start, last } => [*start, *last];
         Area { bytes } => [*bytes];

@@ -49,7 +49,7 @@ pub fn print_bus(name: &Text<'_>, step: &BusStep, into: &mut Bytes) -> Result<()
     ensures { OnOk result (into.new
         ≡ into.old ++ join_with_byte 32 (with_name name.now (bus_text step.now))) }
 {
-    print_forms!(step of BusStep, BusWord, name, into;
+    print_forms!(step of BusStep, BusWord, name, into, {};
         Attach {} => [];
         Detach {} => [];
         Offered {} => [];

@@ -56,7 +56,7 @@ pub fn print_driver(
     ensures { OnOk result (into.new
         ≡ into.old ++ join_with_byte 32 (with_name name.now (driver_text step.now))) }
 {
-    print_forms!(step of DriverStep, DriverWord, name, into;
+    print_forms!(step of DriverStep, DriverWord, name, into, {};
         Buf { bytes } => [] put_hex(bytes.as_slice());
         Zeros { len } => [*len];
         Free { buffer } => [*buffer];

@@ -10,9 +10,8 @@ macro_rules! read_form {
 
 /// The lines of a device's steps: the first word, the name, the numbers in brackets, and what stands behind them.
 macro_rules! print_forms {
-    ($step:ident of $group:ident, $word:ident, $name:ident, $into:ident;
-        $($form:ident { $($field:ident),* } => [$($number:expr),*] $($put:ident($value:expr)),*;)*
-        $($other:tt)*) => {
+    ($step:ident of $group:ident, $word:ident, $name:ident, $into:ident, { $($other:tt)* };
+        $($form:ident { $($field:ident),* } => [$($number:expr),*] $($put:ident($value:expr)),*;)*) => {
         match $step {
             $($group::$form { $($field),* } => {
                 begin($into, $word::$form.text(), $name, &[$($number),*])?;

@@ -50,7 +50,7 @@ pub fn print_node(name: &Text<'_>, step: &NodeStep<'_>, into: &mut Bytes) -> Res
     ensures { OnOk result (into.new
         ≡ into.old ++ join_with_byte 32 (with_name name.now (node_text step.now))) }
 {
-    print_forms!(step of NodeStep, NodeWord, name, into;
+    print_forms!(step of NodeStep, NodeWord, name, into, {};
         Open {} => [];
         Close {} => [];
         Features {} => [];

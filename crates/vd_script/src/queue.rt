@@ -118,7 +118,10 @@ pub fn print_queue(name: &Text<'_>, step: &QueueStep, into: &mut Bytes) -> Resul
     ensures { OnOk result (into.new
         ≡ into.old ++ join_with_byte 32 (with_name name.now (queue_text step.now))) }
 {
-    print_forms!(step of QueueStep, QueueWord, name, into;
+    print_forms!(step of QueueStep, QueueWord, name, into, {
+        QueueStep::Add { queue, parts } => put_add(name, *queue, parts, into),
+        QueueStep::Submit { queue, form } => put_submit(name, *queue, form, into),
+    };
         Walk { queue, head } => [u64::from(*queue), u64::from(*head)];
         Fetch { queue } => [u64::from(*queue)];
         Execute { queue } => [u64::from(*queue)];
@@ -127,7 +130,5 @@ pub fn print_queue(name: &Text<'_>, step: &QueueStep, into: &mut Bytes) -> Resul
         Unring { queue } => [u64::from(*queue)];
         Publish { queue } => [u64::from(*queue)];
         Poll { queue } => [u64::from(*queue)];
-        QueueStep::Add { queue, parts } => put_add(name, *queue, parts, into),
-        QueueStep::Submit { queue, form } => put_submit(name, *queue, form, into),
     )
 }
