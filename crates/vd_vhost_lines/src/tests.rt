@@ -23,11 +23,9 @@ fn a_table_is_read(rt: HostRuntime) -> Result<(), Fail> {
 #[test]
 fn bytes_are_read(rt: HostRuntime) -> Result<(), Fail> {
     let mut scratch = Vec::new(rt.alloc());
-    let Ok(Some(VhostStep::Store { at, bytes })) = read_vhost_line(
-        rt.alloc(),
-        &mut scratch,
-        b"store 0x10 0aFF",
-    ) else {
+    let line = b"store 0x10 0aFF".as_slice();
+    let Ok(Some(VhostStep::Store { at, bytes })) = read_vhost_line(rt.alloc(), &mut scratch, line)
+    else {
         return Err("a store is in the grammar".into());
     };
     assert_eq!(rt; at, 16);
