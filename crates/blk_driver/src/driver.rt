@@ -11,7 +11,7 @@ ghost use Rattle.vd_model.specs.Place.{taken_slots};
 ghost use Rattle.vd_model.specs.RingTurns.{unmap_acts, needed_descriptors, placed_mappings};
 ghost use Rattle.vr_split.specs.Mem.{IsUnchanged, Becomes};
 ghost use Rattle.vr_split.specs.Reach.{RingInReach, KeepsReach};
-ghost use Rattle.vr_driver.specs.Side.{free_descriptors, next_head, with_chain, all_published, is_waiting};
+ghost use Rattle.vr_driver.specs.Side.{unowned_descriptors, next_head, with_chain, all_published, is_waiting};
 ghost use Rattle.vr_driver.specs.Driver.{with_parts, with_index, is_kick_needed, next_completion, with_answer};
 ghost use Rattle.vr_driver.specs.declared.ring.AddError.TheVariants.{Full, TooLong};
 ghost use Rattle.blk_driver.specs.Driver.{Driver, request_in, least_of, made_in, maps_in, pending_of, without_pending};
@@ -165,7 +165,7 @@ impl BlkDriver {
 
         ensures too_long { (result ≡ Err TooLong) ↔ (self.old.ring.place.size < length parts.now) }
         ensures full { (result ≡ Err Full) ↔ ((length parts.now ≤ self.old.ring.place.size)
-            × (length (free_descriptors self.old.ring) < length parts.now)) }
+            × (length (unowned_descriptors self.old.ring) < length parts.now)) }
         ensures head { IfOk result (λ head. head ≡ next_head self.old.ring (length parts.now)) }
         ensures state { OnOk result (self.new
             ≡ record self.old { ring = with_chain self.old.ring (length parts.now) }) }
@@ -217,7 +217,7 @@ impl BlkDriver {
         requires buffers { buffers + 1 < 2 ^ 64 }
 
         ensures full { (result ≡ Err SubmitError.Full) ↔
-            (length (free_descriptors self.old.ring) < needed_descriptors (has_feature features 28)
+            (length (unowned_descriptors self.old.ring) < needed_descriptors (has_feature features 28)
             (asked_in ask)) }
         ensures no_space { result ≡ Err SubmitError.NoSpace → (x : Setting) (acts : List Act) → P.stands port.old x acts → has_range acts buffers 0 17 ≡ true →
             placed_mappings x (taken_slots acts) (maps acts) (wants_of (draft_of ask buffers features)) ≡ None }

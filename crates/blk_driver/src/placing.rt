@@ -5,7 +5,7 @@ ghost use Rattle.vd_model.specs.Acts.{Act};
 ghost use Rattle.vd_model.specs.RingTurns.{table_bytes, part_wants, needed_descriptors};
 ghost use Rattle.vr_split.specs.Mem.{IsUnchanged, Becomes};
 ghost use Rattle.vr_split.specs.Reach.{RingInReach, KeepsReach};
-ghost use Rattle.vr_driver.specs.Side.{free_descriptors, next_head, with_chain};
+ghost use Rattle.vr_driver.specs.Side.{unowned_descriptors, next_head, with_chain};
 ghost use Rattle.blk_driver.specs.Asked.{IsAsked, asked_in, wants_of};
 ghost use Rattle.blk_driver.specs.Placed.{IsPart, AreParts, Lists, IsPlaced, with_request, chain_len};
 
@@ -85,8 +85,8 @@ pub fn add_parts<M: Mem>(
     requires in_reach { RingInReach (M.told mem.old) (M.span mem.old) ring.old.place }
     requires some { 0 < length parts.now }
     requires few { length parts.now ≤ 3 }
-    requires enough { chain_len indirect parts.now ≤ length (free_descriptors ring.old) }
-    requires size { length (free_descriptors ring.old) ≤ ring.old.place.size }
+    requires enough { chain_len indirect parts.now ≤ length (unowned_descriptors ring.old) }
+    requires size { length (unowned_descriptors ring.old) ≤ ring.old.place.size }
     ensures head { result ≡ next_head ring.old (chain_len indirect parts.now) }
     ensures side { ring.new ≡ with_chain ring.old (chain_len indirect parts.now) }
     ensures written { Becomes M.told mem.old mem.new (λ m. with_request m ring.old indirect table parts.now) }
@@ -119,8 +119,8 @@ fn publish_parts<P: Dma>(
     requires in_reach { RingInReach (P.told port.old) (P.span port.old) ring.old.place }
     requires some { 0 < length parts.now }
     requires few { length parts.now ≤ 3 }
-    requires enough { chain_len draft.now.indirect parts.now ≤ length (free_descriptors ring.old) }
-    requires size { length (free_descriptors ring.old) ≤ ring.old.place.size }
+    requires enough { chain_len draft.now.indirect parts.now ≤ length (unowned_descriptors ring.old) }
+    requires size { length (unowned_descriptors ring.old) ≤ ring.old.place.size }
     requires buffer { draft.now.buffer + 1 < 2 ^ 64 }
     ensures placed { (first : ℕ) → number ≡ first + length parts.now → AreParts P.stands port.old first (part_wants draft.now.buffer (asked_in draft.now.ask)) parts.now →
         chain_len draft.now.indirect parts.now ≡ needed_descriptors draft.now.indirect (asked_in draft.now.ask) →
@@ -139,8 +139,8 @@ pub fn place<P: Dma>(port: &mut P, ring: &mut DriverRing, draft: &Draft, first: 
     requires in_reach { RingInReach (P.told port.old) (P.span port.old) ring.old.place }
     requires asked { IsAsked draft.now.ask }
     requires enough { needed_descriptors draft.now.indirect (asked_in draft.now.ask) ≤ length
-        (free_descriptors ring.old) }
-    requires size { length (free_descriptors ring.old) ≤ ring.old.place.size }
+        (unowned_descriptors ring.old) }
+    requires size { length (unowned_descriptors ring.old) ≤ ring.old.place.size }
     requires buffer { draft.now.buffer + 1 < 2 ^ 64 }
     requires room { first + length (wants_of draft.now) < 2 ^ 64 }
     ensures placed { IsPlaced P.told P.span P.keeps P.keeps_rest P.stands port.old draft.now first

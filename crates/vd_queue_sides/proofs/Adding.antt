@@ -8,21 +8,21 @@ use Rattle.vd_model.specs.Acts.{Act, AddedChain, Request, Queue, Chain_added}
 use Rattle.vd_model.specs.Queues as model
 use Rattle.vd_model.specs.Queues.{is_in_chains, numbers_below}
 use Rattle.vd_model.specs.Rings.{next16}
-use Rattle.vr_driver.specs.Side.{DriverSide, with_owner, free_descriptors, next_chain, next_head, with_chain}
+use Rattle.vr_driver.specs.Side.{DriverSide, with_owner, unowned_descriptors, next_chain, next_head, with_chain}
 use Rattle.vd_queue_sides.specs.Chains.{Chains, chains_of, holds, owner_of, is_head, with_same_head, EachChain, IsSide, RingStands}
 use Rattle.vd_queue_sides.proofs.Daemons.{itself}
 use Rattle.vd_queue_sides.proofs.Counting.{len_more, head_more, head_first}
 use Rattle.vd_queue_sides.proofs.Lists.{set_same, set_other, set_len, either, or_left, any_more, any_taken}
 use Rattle.vd_queue_sides.proofs.Owners.{owned, or_else, owner_more, head_owned, free_none, owned_len, owner_at, each_more, each_weaker}
 
-module _ (c : Chains) (region : ℕ) (s : DriverSide) (k : IsSide c region s) (n : ℕ) (some : 0 < n) (fits : n ≤ length (free_descriptors s)) (request : Option Request) where
+module _ (c : Chains) (region : ℕ) (s : DriverSide) (k : IsSide c region s) (n : ℕ) (some : 0 < n) (fits : n ≤ length (unowned_descriptors s)) (request : Option Request) where
   abbrev pub new_chain : AddedChain
   new_chain = record { head = next_head s n; descriptors = next_chain s n; request = request }
 
   -- what it takes was free
   taken_free : (d : ℕ) → holds d new_chain ≡ true → (d < s.place.size) × (owner_of c.out d ≡ None)
   taken_free d e =
-      let f = free_none s.owners 0 d (any_taken (λ j. j == d) n (free_descriptors s) e) in
+      let f = free_none s.owners 0 d (any_taken (λ j. j == d) n (unowned_descriptors s) e) in
       let high = f.1 in
       let len = k.owners_len in
       let below : d < s.place.size = omega arith in
@@ -35,7 +35,7 @@ module _ (c : Chains) (region : ℕ) (s : DriverSide) (k : IsSide c region s) (n
   holds_first (suc n) (x ∷ xs) some fits = or_left (x == x) (list_any (λ j. j == x) (take n xs)) (itself x)
 
   holds_head : holds (next_head s n) new_chain ≡ true
-  holds_head = holds_first n (free_descriptors s) some fits
+  holds_head = holds_first n (unowned_descriptors s) some fits
 
   new_owner : (d : ℕ) → d < s.place.size → get_or (with_owner s.owners (next_chain s n) (next_head s n)) d None ≡ owner_of (c.out ++ new_chain ∷ []) d
   new_owner d below =
@@ -125,7 +125,7 @@ module _ (c : Chains) (region : ℕ) (s : DriverSide) (k : IsSide c region s) (n
     apart = new_apart;
   }
 
-pub ring_added : (acts : List Act) (q region : ℕ) (s : DriverSide) → RingStands acts q (Some (region, s)) → (n : ℕ) → 0 < n → n ≤ length (free_descriptors s) → (request : Option Request)
+pub ring_added : (acts : List Act) (q region : ℕ) (s : DriverSide) → RingStands acts q (Some (region, s)) → (n : ℕ) → 0 < n → n ≤ length (unowned_descriptors s) → (request : Option Request)
     → RingStands (Queue (Chain_added q (record { head = next_head s n; descriptors = next_chain s n; request = request })) ∷ acts) q (Some (region, with_chain s n))
 ring_added acts q region s k n some fits request = subst (λ c. IsSide c region (with_chain s n)) (sym (ap (λ t. record (chains_of acts q) {
   added = (if t then model.added_count acts q + 1 else model.added_count acts q);

@@ -3,7 +3,7 @@ use Rattle.std.proofs.Common.{◌≡◌, ℕ, zero, suc, ◌+◌, ◌<◌, Bool,
 use Rattle.std.specs.Prelude.{is_some, not}
 use Rattle.vd_model.specs.Queues as model
 use Rattle.vd_model.specs.Queues.{is_in_chains, numbers_below}
-use Rattle.vr_driver.specs.Side.{DriverSide, free_from, free_descriptors}
+use Rattle.vr_driver.specs.Side.{DriverSide, free_from, unowned_descriptors}
 use Rattle.vd_queue_sides.specs.Chains.{Chains, IsSide}
 use Rattle.vd_queue_sides.proofs.Owners.{owned}
 
@@ -30,7 +30,7 @@ free_is (o ∷ owners) k p h = by o (first (h 0 (omega arith))) (free_is owners 
   by None e rest = ap (λ l. k ∷ l) rest ∙ sym (ap (λ t. if t then k ∷ filter p (up (k + 1) (length owners)) else filter p (up (k + 1) (length owners))) e)
   by (Some x) e rest = rest ∙ sym (ap (λ t. if t then k ∷ filter p (up (k + 1) (length owners)) else filter p (up (k + 1) (length owners))) e)
 
-pub free_same : (c : Chains) (region : ℕ) (s : DriverSide) → IsSide c region s → free_descriptors s ≡ model.free_descriptors s.place.size c.out
+pub free_same : (c : Chains) (region : ℕ) (s : DriverSide) → IsSide c region s → unowned_descriptors s ≡ model.free_descriptors s.place.size c.out
 free_same c region s k =
     free_is s.owners 0 (λ d. not (is_in_chains c.out d)) (λ d below. ap not (ap is_some (k.owners d (subst (λ j. d < j) k.owners_len below)) ∙ owned c.out d) ∙ ap (λ j. not (is_in_chains c.out j)) (let e : d ≡ 0 + d = omega arith in e))
     ∙ ap (λ j. filter (λ d. not (is_in_chains c.out d)) (up 0 j)) k.owners_len

@@ -13,7 +13,7 @@ ghost use Rattle.vd_model.specs.Rings.{number16, next16, used_index_at, availabl
 ghost use Rattle.vd_model.specs.RingTurns.{descriptor_puts};
 ghost use Rattle.vd_model.specs.Trace.{whole, trace_start, ending_of};
 ghost use Rattle.vd_model.specs.DaemonTurns.{Hand, daemon_memory, queue_place, index_after, first_used, readable_bytes, has_indirect};
-ghost use Rattle.vr_driver.specs.Side.{DriverSide, side_of, free_descriptors, with_chain, all_published, without_chain, waiting, is_waiting};
+ghost use Rattle.vr_driver.specs.Side.{DriverSide, side_of, unowned_descriptors, with_chain, all_published, without_chain, waiting, is_waiting};
 ghost use Rattle.vr_driver.specs.Driver.{chain_written, with_index};
 ghost use Rattle.vr_device.specs.Side.{Side};
 ghost use Rattle.vd_ring_memory.specs.RingPuts.{after_puts};
@@ -28,7 +28,7 @@ pub fn driver_side()
         RingStands (Queue (Ring_made q place region) ∷ acts) q (Some (region, side_of place)) }
     ensures dropped { (acts : List Act) (q : ℕ) → RingStands (Queue (Ring_dropped q) ∷ acts) q None }
     ensures added { (acts : List Act) (q region n : ℕ) (s : DriverSide) (request : Option Request) → RingStands acts q (Some (region, s)) →
-        0 < n → n ≤ length (free_descriptors s) → RingStands (Queue (Chain_added q (next_added s n request)) ∷ acts) q (Some (region, with_chain s n)) }
+        0 < n → n ≤ length (unowned_descriptors s) → RingStands (Queue (Chain_added q (next_added s n request)) ∷ acts) q (Some (region, with_chain s n)) }
     ensures published { (acts : List Act) (q region : ℕ) (s : DriverSide) → RingStands acts q (Some (region, s)) →
         RingStands (Queue (Chains_published q) ∷ acts) q (Some (region, all_published s)) }
     ensures reclaimed { (acts : List Act) (q region head : ℕ) (s : DriverSide) → RingStands acts q (Some (region, s)) →
@@ -36,7 +36,7 @@ pub fn driver_side()
 
     // The free descriptors are those that the acts leave free.
     ensures free { (acts : List Act) (q region : ℕ) (s : DriverSide) → RingStands acts q (Some (region, s)) →
-        free_descriptors s ≡ model.free_descriptors s.place.size (chains_out acts q) }
+        unowned_descriptors s ≡ model.free_descriptors s.place.size (chains_out acts q) }
 
     // Counts modulo 65,536 say as much as the whole ones, in a ring of at most 32,768.
     ensures waiting { (acts : List Act) (q region : ℕ) (s : DriverSide) → RingStands acts q (Some (region, s)) → s.place.size ≤ 32768 →

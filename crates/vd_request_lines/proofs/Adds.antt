@@ -27,7 +27,7 @@ use Rattle.vd_memory_lines.specs.Stands.{Stands}
 use Rattle.vd_memory_lines.proofs.Parts.{domain_act}
 use Rattle.vr_split.specs.Reach.{RingInReach}
 use Rattle.vr_split.specs.ReachLemmas.{available_slot-reached}
-use Rattle.vr_driver.specs.Side.{free_descriptors, next_chain, next_head, with_chain}
+use Rattle.vr_driver.specs.Side.{unowned_descriptors, next_chain, next_head, with_chain}
 use Rattle.vr_driver.specs.Driver.{with_parts}
 use Rattle.vd_ring_memory.specs.RingPuts.{AreRingPuts, IsAfterRingPuts}
 use Rattle.vd_queue_sides.specs.Chains.{chains_of, is_head}
@@ -69,7 +69,7 @@ found_before (c ∷ cs) chain id e = by (c.head == id) refl (found_before cs cha
       ∙ sym (ap (λ t. if t then Some c else chain_at (cs ++ chain ∷ []) id) f)
 
 module _ (made : Creation) (acts : List Act) (q : ℕ) (here : is_missing made q ≡ false) (held : HeldDriver) (r : RequestsStand acts q (Some held)) (parts : List Part) where
-  free_is : free_descriptors held.driver.ring ≡ model.free_descriptors held.driver.ring.place.size (chains_out acts q)
+  free_is : unowned_descriptors held.driver.ring ≡ model.free_descriptors held.driver.ring.place.size (chains_out acts q)
   free_is = free_same (chains_of acts q) held.region held.driver.ring r.side
 
   on_it : add_turn made acts q parts ≡ added_to acts q parts (record { place = held.driver.ring.place; region = held.region })
@@ -77,27 +77,27 @@ module _ (made : Creation) (acts : List Act) (q : ℕ) (here : is_missing made q
       ap (λ t. refuse (refusal_if t Inval) (option_map_or (added_to acts q parts) (ring_of acts q) (refusal_turn Noent))) here
       ∙ ap (λ o. option_map_or (added_to acts q parts) o (refusal_turn Noent)) r.side.ring
 
-  by_tests : (out full : Bool) → is_out_of_order parts ≡ out → nat_lt (length (free_descriptors held.driver.ring)) (length parts) ≡ full → add_turn made acts q parts
+  by_tests : (out full : Bool) → is_out_of_order parts ≡ out → nat_lt (length (unowned_descriptors held.driver.ring)) (length parts) ≡ full → add_turn made acts q parts
       ≡ refuse (refusal_if out Inval) (refuse (refusal_if full Nospc)
-      (done_with (Word tag.Head ∷ Number (first_of (free_descriptors held.driver.ring)) ∷ []) (chain_acts acts q held.driver.ring.place parts (next_chain held.driver.ring (length parts)) None)))
+      (done_with (Word tag.Head ∷ Number (first_of (unowned_descriptors held.driver.ring)) ∷ []) (chain_acts acts q held.driver.ring.place parts (next_chain held.driver.ring (length parts)) None)))
   by_tests out full e f =
       on_it
       ∙ ap (λ ds. refuse (refusal_if (is_out_of_order parts) Inval) (refuse (refusal_if (nat_lt (length ds) (length parts)) Nospc)
       (done_with (Word tag.Head ∷ Number (first_of ds) ∷ []) (chain_acts acts q held.driver.ring.place parts (take (length parts) ds) None)))) (sym free_is)
-      ∙ ap (λ t. refuse (refusal_if t Inval) (refuse (refusal_if (nat_lt (length (free_descriptors held.driver.ring)) (length parts)) Nospc)
-      (done_with (Word tag.Head ∷ Number (first_of (free_descriptors held.driver.ring)) ∷ []) (chain_acts acts q held.driver.ring.place parts (next_chain held.driver.ring (length parts)) None)))) e
+      ∙ ap (λ t. refuse (refusal_if t Inval) (refuse (refusal_if (nat_lt (length (unowned_descriptors held.driver.ring)) (length parts)) Nospc)
+      (done_with (Word tag.Head ∷ Number (first_of (unowned_descriptors held.driver.ring)) ∷ []) (chain_acts acts q held.driver.ring.place parts (next_chain held.driver.ring (length parts)) None)))) e
       ∙ ap (λ t. refuse (refusal_if out Inval) (refuse (refusal_if t Nospc)
-      (done_with (Word tag.Head ∷ Number (first_of (free_descriptors held.driver.ring)) ∷ []) (chain_acts acts q held.driver.ring.place parts (next_chain held.driver.ring (length parts)) None)))) f
+      (done_with (Word tag.Head ∷ Number (first_of (unowned_descriptors held.driver.ring)) ∷ []) (chain_acts acts q held.driver.ring.place parts (next_chain held.driver.ring (length parts)) None)))) f
 
   pub disordered : is_out_of_order parts ≡ true → add_turn made acts q parts ≡ refusal_turn Inval
-  disordered e = by_tests true (nat_lt (length (free_descriptors held.driver.ring)) (length parts)) e refl
+  disordered e = by_tests true (nat_lt (length (unowned_descriptors held.driver.ring)) (length parts)) e refl
 
-  pub full_turn : is_out_of_order parts ≡ false → length (free_descriptors held.driver.ring) < length parts → add_turn made acts q parts ≡ refusal_turn Nospc
-  full_turn e few = by_tests false true e (let test : nat_lt (length (free_descriptors held.driver.ring)) (length parts) ≡ true = grind (arith, nat_tests) in test)
+  pub full_turn : is_out_of_order parts ≡ false → length (unowned_descriptors held.driver.ring) < length parts → add_turn made acts q parts ≡ refusal_turn Nospc
+  full_turn e few = by_tests false true e (let test : nat_lt (length (unowned_descriptors held.driver.ring)) (length parts) ≡ true = grind (arith, nat_tests) in test)
 
-  pub fit_turn : is_out_of_order parts ≡ false → length parts ≤ length (free_descriptors held.driver.ring)
-      → add_turn made acts q parts ≡ done_with (Word tag.Head ∷ Number (first_of (free_descriptors held.driver.ring)) ∷ []) (chain_acts acts q held.driver.ring.place parts (next_chain held.driver.ring (length parts)) None)
-  fit_turn e fits = by_tests false false e (let test : nat_lt (length (free_descriptors held.driver.ring)) (length parts) ≡ false = grind (arith, nat_tests) in test)
+  pub fit_turn : is_out_of_order parts ≡ false → length parts ≤ length (unowned_descriptors held.driver.ring)
+      → add_turn made acts q parts ≡ done_with (Word tag.Head ∷ Number (first_of (unowned_descriptors held.driver.ring)) ∷ []) (chain_acts acts q held.driver.ring.place parts (next_chain held.driver.ring (length parts)) None)
+  fit_turn e fits = by_tests false false e (let test : nat_lt (length (unowned_descriptors held.driver.ring)) (length parts) ≡ false = grind (arith, nat_tests) in test)
 
 module _ (x : Setting) (acts : List Act) (m : Pool) (q : ℕ) (h k : Memory) (held : HeldDriver) (s : Stands x acts h m) (r : RequestsStand acts q (Some held))
     (before : Shows h.domain) (later : Shows k.domain) (after : IsAfterRingPuts h.domain k.domain) (rest : k ≡ record h { domain = k.domain }) (parts : List Part) where
@@ -108,7 +108,7 @@ module _ (x : Setting) (acts : List Act) (m : Pool) (q : ℕ) (h k : Memory) (he
     requests = subst (λ (t : blk.Driver). RequestsStand acts q (Some (record held { driver = t }))) (sym same) r;
   }
 
-  module _ (n : 0 < length parts) (fits : length parts ≤ length (free_descriptors held.driver.ring)) (told : ring_map k.domain ≡ with_parts (ring_map h.domain) held.driver.ring parts) where
+  module _ (n : 0 < length parts) (fits : length parts ≤ length (unowned_descriptors held.driver.ring)) (told : ring_map k.domain ≡ with_parts (ring_map h.domain) held.driver.ring parts) where
     seen : ring_map h.domain ≡ ring_memory x acts
     seen = before x acts m s.domain
 
@@ -155,8 +155,8 @@ module _ (x : Setting) (acts : List Act) (m : Pool) (q : ℕ) (h k : Memory) (he
         }
 
     -- the head that is told is the turn's
-    head_is : next_head held.driver.ring (length parts) ≡ first_of (free_descriptors held.driver.ring)
-    head_is = first_is (next_chain held.driver.ring (length parts)) ∙ first_taken (length parts) (free_descriptors held.driver.ring) n
+    head_is : next_head held.driver.ring (length parts) ≡ first_of (unowned_descriptors held.driver.ring)
+    head_is = first_is (next_chain held.driver.ring (length parts)) ∙ first_taken (length parts) (unowned_descriptors held.driver.ring) n
 
     pub adds : (made : Creation) → is_missing made q ≡ false → is_out_of_order parts ≡ false → (heard : Answer → Type 0) (told_head : ℕ) (d : blk.Driver)
         → told_head ≡ next_head held.driver.ring (length parts) → d ≡ record held.driver { ring = with_chain held.driver.ring (length parts) } → heard (Done (Word tag.Head ∷ Number told_head ∷ []))

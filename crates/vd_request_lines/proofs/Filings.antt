@@ -17,7 +17,7 @@ use Rattle.vd_model.specs.BusTurns.{is_missing}
 use Rattle.vd_model.specs.DaemonTurns.{has_indirect}
 use Rattle.vd_model.specs.DriverTurns.{buffer_limit}
 use Rattle.vd_model.specs.Turn.{Turn, refuse, refusal_if, refusal_turn}
-use Rattle.vr_driver.specs.Side.{free_descriptors, next_chain}
+use Rattle.vr_driver.specs.Side.{unowned_descriptors, next_chain}
 use Rattle.vd_queue_sides.specs.Chains.{chains_of}
 use Rattle.vd_queue_sides.proofs.FreeLemmas.{free_same}
 use Rattle.blk_driver.specs.Asked.{asked_in}
@@ -32,7 +32,7 @@ refused_if true = refl
 refused_if false = refl
 
 module _ (x : Setting) (acts : List Act) (q : ℕ) (held : HeldDriver) (r : RequestsStand acts q (Some held)) where
-  free_is : free_descriptors held.driver.ring ≡ model.free_descriptors held.driver.ring.place.size (chains_out acts q)
+  free_is : unowned_descriptors held.driver.ring ≡ model.free_descriptors held.driver.ring.place.size (chains_out acts q)
   free_is = free_same (chains_of acts q) held.region held.driver.ring r.side
 
   abbrev ring : Ring
@@ -65,13 +65,13 @@ module _ (x : Setting) (acts : List Act) (q : ℕ) (held : HeldDriver) (r : Requ
 
     -- there is no place
     pub no_place : want_refusal made acts a.kind a.want ≡ None → (ev : Bool)
-        → HasNoPlace x acts (record { ask = ask_by form; buffer = buffers acts; indirect = i; event_idx = ev }) (length (free_descriptors held.driver.ring)) → submit_turn x made acts q form ≡ refusal_turn Nospc
+        → HasNoPlace x acts (record { ask = ask_by form; buffer = buffers acts; indirect = i; event_idx = ev }) (length (unowned_descriptors held.driver.ring)) → submit_turn x made acts q form ≡ refusal_turn Nospc
     no_place e ev (no_bytes more) =
         let over : nat_lt buffer_limit (buffers_len acts + made_len i a) ≡ true = grind (arith, nat_tests, more) in
         on_it ∙ ap (λ o. refuse o (asked_turn i a)) e
         ∙ ap (λ t. refuse (refusal_if t Nospc) (refuse (refusal_if (is_full held.driver.ring.place.size (chains_out acts q) (needed_descriptors i a)) Nospc) (by_slots i a (wanted_slots i a)))) over
     no_place e ev (too_few few) =
-        let full : nat_lt (length (free_descriptors held.driver.ring)) (needed_descriptors i a) ≡ true = grind (arith, nat_tests, few) in
+        let full : nat_lt (length (unowned_descriptors held.driver.ring)) (needed_descriptors i a) ≡ true = grind (arith, nat_tests, few) in
         on_it ∙ ap (λ o. refuse o (asked_turn i a)) e
         ∙ ap (λ t. refuse (refusal_if (nat_lt buffer_limit (buffers_len acts + made_len i a)) Nospc) (refuse (refusal_if t Nospc) (by_slots i a (wanted_slots i a))))
         (ap (λ ds. nat_lt (length ds) (needed_descriptors i a)) (sym free_is) ∙ full)
@@ -84,12 +84,12 @@ module _ (x : Setting) (acts : List Act) (q : ℕ) (held : HeldDriver) (r : Requ
         ∙ refused_if (nat_lt buffer_limit (buffers_len acts + made_len i a))
 
     -- there is one
-    pub placed_turn : want_refusal made acts a.kind a.want ≡ None → buffers_len acts + made_len i a ≤ buffer_limit → needed_descriptors i a ≤ length (free_descriptors held.driver.ring)
+    pub placed_turn : want_refusal made acts a.kind a.want ≡ None → buffers_len acts + made_len i a ≤ buffer_limit → needed_descriptors i a ≤ length (unowned_descriptors held.driver.ring)
         → (ms : List Streaming) → placed_mappings x (taken_slots acts) (maps acts) (part_wants (buffers acts) a ++ table_wants i (buffers acts) a) ≡ Some ms
         → submit_turn x made acts q form ≡ submitted_turn x acts q ring i a ms (next_chain held.driver.ring (needed_descriptors i a))
     placed_turn e room fits ms f =
         let under : nat_lt buffer_limit (buffers_len acts + made_len i a) ≡ false = grind (arith, nat_tests, room) in
-        let enough : nat_lt (length (free_descriptors held.driver.ring)) (needed_descriptors i a) ≡ false = grind (arith, nat_tests, fits) in
+        let enough : nat_lt (length (unowned_descriptors held.driver.ring)) (needed_descriptors i a) ≡ false = grind (arith, nat_tests, fits) in
         on_it ∙ ap (λ o. refuse o (asked_turn i a)) e
         ∙ ap (λ t. refuse (refusal_if t Nospc) (refuse (refusal_if (is_full held.driver.ring.place.size (chains_out acts q) (needed_descriptors i a)) Nospc) (by_slots i a (wanted_slots i a)))) under
         ∙ ap (λ t. refuse (refusal_if t Nospc) (by_slots i a (wanted_slots i a))) (ap (λ ds. nat_lt (length ds) (needed_descriptors i a)) (sym free_is) ∙ enough)

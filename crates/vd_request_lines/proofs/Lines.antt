@@ -26,7 +26,7 @@ use Rattle.vd_domain.specs.Seen.{ring_map, ring_memory}
 use Rattle.vd_domain.specs.Apart.{AreApart}
 use Rattle.vd_memory_lines.specs.declared.memory.Memory.{Memory}
 use Rattle.vd_memory_lines.specs.Stands.{Stands}
-use Rattle.vr_driver.specs.Side.{free_descriptors}
+use Rattle.vr_driver.specs.Side.{unowned_descriptors}
 use Rattle.vd_rings.proofs.Putting.{Shows}
 use Rattle.blk_driver.specs.Asked.{asked_in, draft_of}
 use Rattle.blk_driver.specs.Buffers.{has_range}
@@ -62,11 +62,11 @@ module _ (x : Setting) (made : Creation) (acts : List Act) (q : ℕ) (held : Hel
   refused_told errno e said = tells_by (refused_turn x acts q held r made here form i is errno (sym (e ∙ refusal))) refl said (record { memory = s; requests = r })
 
   module _ (fine_is : None ≡ asked_refusal h.buffers busy (asked_in ask)) (k : Memory) (n : Pool) (d : blk.Driver) where
-    pub none_told : d ≡ held.driver → HasNoPlace x acts (draft_of ask (buffers acts) features) (length (free_descriptors held.driver.ring)) → Stands x acts k n → heard (answer.Err Nospc)
+    pub none_told : d ≡ held.driver → HasNoPlace x acts (draft_of ask (buffers acts) features) (length (unowned_descriptors held.driver.ring)) → Stands x acts k n → heard (answer.Err Nospc)
         → Tells heard (submit_turn x made acts q form) (After x acts q k n (Some (record held { driver = d })))
     none_told same none stands said =
         tells_by (no_place x acts q held r made here form i is (sym (fine_is ∙ refusal)) (has_feature features 29)
-        (subst (λ (k : Ask). HasNoPlace x acts (draft_of k (buffers acts) features) (length (free_descriptors held.driver.ring))) asks none)) refl said
+        (subst (λ (k : Ask). HasNoPlace x acts (draft_of k (buffers acts) features) (length (unowned_descriptors held.driver.ring))) asks none)) refl said
         (record { memory = stands; requests = subst (λ (t : blk.Driver). RequestsStand acts q (Some (record held { driver = t }))) (sym same) r })
 
     given : IfSome a.want (λ w. has_range acts w.buffer w.offset w.len ≡ true)

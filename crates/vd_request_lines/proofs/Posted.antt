@@ -24,7 +24,7 @@ use Rattle.vd_memory_lines.specs.Stands.{Stands}
 use Rattle.vd_memory_lines.proofs.Parts.{domain_act}
 use Rattle.vr_split.specs.Reach.{RingInReach}
 use Rattle.vr_split.specs.ReachLemmas.{available_slot-reached, available_index-reached}
-use Rattle.vr_driver.specs.Side.{DriverSide, free_descriptors, next_chain, with_chain, all_published}
+use Rattle.vr_driver.specs.Side.{DriverSide, unowned_descriptors, next_chain, with_chain, all_published}
 use Rattle.vr_driver.specs.Driver.{with_index, is_kick_needed}
 use Rattle.vd_ring_memory.specs.RingPuts.{after_puts, AreRingPuts}
 use Rattle.vd_ring_memory.specs.RingPutLemmas.{ring_puts_same}
@@ -69,11 +69,11 @@ abbrev pub taken : Bool → AskedRequest → DriverSide → List ℕ
 taken i a s = next_chain s (needed_descriptors i a)
 
 pub puts_told : (i : Bool) (m : model.Memory) (s : DriverSide) (a : AskedRequest) (ms : List Streaming) (parts : List Part) (table count : ℕ) → IsRingSize s.place.size → s.added ≡ count % 65536
-    → needed_descriptors i a ≤ length (free_descriptors s) → length parts ≡ parts_count a → (i ≡ true → HasTable a ms table (length parts))
+    → needed_descriptors i a ≤ length (unowned_descriptors s) → length parts ≡ parts_count a → (i ≡ true → HasTable a ms table (length parts))
     → after_puts m (slot_put s.place count (first_of (taken i a s)) ∷ request_puts i s.place a ms parts (taken i a s)) ≡ with_request m s i table parts
 puts_told false m s a ms parts table count size added fits len tabled =
     subst (λ n. after_puts m (slot_put s.place count (first_of (next_chain s n)) ∷ request_puts false s.place a ms parts (next_chain s n)) ≡ with_request m s false table parts) len
-    (parts_put m s parts count size added (subst (λ n. n ≤ length (free_descriptors s)) (sym len) fits))
+    (parts_put m s parts count size added (subst (λ n. n ≤ length (unowned_descriptors s)) (sym len) fits))
 puts_told true m s a ms parts table count size added fits len tabled =
     let t = tabled refl in
     ap (λ o. after_puts m (slot_put s.place count (first_of (next_chain s 1)) ∷ table_puts s.place o (next_chain s 1))) t.found
@@ -86,12 +86,12 @@ first_inside (suc n) [] some more = absurd (omega arith)
 first_inside (suc n) (x ∷ xs) some more = or_left (x == x) (list_any (λ k. k == x) (take n xs)) (itself x)
 
 pub puts_only : (i : Bool) (base : List Act) (s : DriverSide) (a : AskedRequest) (ms : List Streaming) (parts : List Part) → length s.owners ≡ s.place.size
-    → ((b : ℕ) → s.place.desc ≤ b → b < s.place.desc + 16 * s.place.size → is_coherent base b ≡ true) → needed_descriptors i a ≤ length (free_descriptors s) → AreRingPuts base (request_puts i s.place a ms parts (taken i a s))
+    → ((b : ℕ) → s.place.desc ≤ b → b < s.place.desc + 16 * s.place.size → is_coherent base b ≡ true) → needed_descriptors i a ≤ length (unowned_descriptors s) → AreRingPuts base (request_puts i s.place a ms parts (taken i a s))
 puts_only false base s a ms parts owners table fits =
     in_descriptors base s.place table parts (taken false a s) (λ d e. subst (λ n. d < n) owners (next_inside s (needed_descriptors false a) d e))
 puts_only true base s a ms parts owners table fits = by (last_after (parts_count a) ms) where
   below : first_of (next_chain s 1) < s.place.size
-  below = subst (λ n. first_of (next_chain s 1) < n) owners (next_inside s 1 (first_of (next_chain s 1)) (first_inside 1 (free_descriptors s) (omega arith) (omega (arith, fits))))
+  below = subst (λ n. first_of (next_chain s 1) < n) owners (next_inside s 1 (first_of (next_chain s 1)) (first_inside 1 (unowned_descriptors s) (omega arith) (omega (arith, fits))))
 
   by : (o : Option Streaming) → AreRingPuts base (table_puts s.place o (next_chain s 1))
   by None = tt
@@ -130,7 +130,7 @@ none_some e = cc
 -- ---- a chain with a request is added over acts that a memory stands for, and published
 
 module _ (x : Setting) (base : List Act) (q : ℕ) (held : HeldDriver) (r : RequestsStand base q (Some held)) (i : Bool) (a : AskedRequest) (ms : List Streaming) (parts : List Part)
-    (fits : needed_descriptors i a ≤ length (free_descriptors held.driver.ring)) (request : Request) (p : Pending) (is : request_in p ≡ request)
+    (fits : needed_descriptors i a ≤ length (unowned_descriptors held.driver.ring)) (request : Request) (p : Pending) (is : request_in p ≡ request)
     (head : p.head ≡ first_of (taken i a held.driver.ring)) where
   abbrev place : RingPlace
   place = held.driver.ring.place

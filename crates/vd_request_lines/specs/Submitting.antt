@@ -14,7 +14,7 @@ use Rattle.vd_buffers.specs.Places.{Places, total_of}
 use Rattle.vd_buffers.specs.Stands as kept_buffers
 use Rattle.vd_memory_lines.specs.declared.memory.Memory.{Memory}
 use Rattle.vd_memory_lines.specs.Stands.{Stands}
-use Rattle.vr_driver.specs.Side.{free_descriptors, with_chain, all_published, next_head}
+use Rattle.vr_driver.specs.Side.{unowned_descriptors, with_chain, all_published, next_head}
 use Rattle.vr_driver.specs.Driver.{with_index, is_kick_needed}
 use Rattle.blk_driver.specs.Asked.{asked_in, front_bytes, draft_of, wants_of}
 use Rattle.blk_driver.specs.Buffers.{has_range, AreNumbered}
@@ -86,7 +86,7 @@ pub record IsSubmitted (old : Memory) (before : Pool) (d : Draft) (k l : blk.Dri
       → last_after (parts_count (asked_in d.ask)) ms ≡ Some last
       → Stands x (Driver (Synced_device last) ∷ Driver (Poked (d.buffer + 1) 0 (table_bytes 0 parts)) ∷ (map_acts ms ++ acts)) listed listed_pool × (table ≡ iova_of last)
   pub same_told : ring_map listed.domain ≡ ring_map old.domain
-  pub fits : needed d ≤ length (free_descriptors k.ring)
+  pub fits : needed d ≤ length (unowned_descriptors k.ring)
   pub head : r.head ≡ next_head k.ring (needed d)
   pub idx : r.idx ≡ (with_chain k.ring (needed d)).added
   pub kick : r.kick ≡ is_kick_needed (ring_map new.domain) (with_chain k.ring (needed d)) d.event_idx

@@ -11,7 +11,7 @@ ghost use Rattle.vd_domain.specs.Seen.{ring_map};
 ghost use Rattle.vd_memory_lines.specs.Stands.{Stands};
 ghost use Rattle.vd_answers.specs.Tells.{Tells};
 ghost use Rattle.vr_split.specs.Reach.{RingInReach};
-ghost use Rattle.vr_driver.specs.Side.{free_descriptors, next_head, with_chain};
+ghost use Rattle.vr_driver.specs.Side.{unowned_descriptors, next_head, with_chain};
 ghost use Rattle.vr_driver.specs.Driver.{with_parts};
 ghost use Rattle.vd_ring_memory.specs.RingPuts.{IsRingReached, IsAfterRingPuts};
 ghost use Rattle.vd_request_lines.specs.Known.{IsKnown};
@@ -34,8 +34,8 @@ fn added(domain: &mut Domain, driver: &mut BlkDriver, parts: &[Part]) -> Result<
     requires in_reach { RingInReach (Some (ring_map domain.old)) None driver.old.ring.place }
     requires owners { length driver.old.ring.owners ≡ driver.old.ring.place.size }
     requires some { 0 < length parts.now }
-    ensures full { OnErr result (length (free_descriptors driver.old.ring) < length parts.now) }
-    ensures fits { OnOk result (length parts.now ≤ length (free_descriptors driver.old.ring)) }
+    ensures full { OnErr result (length (unowned_descriptors driver.old.ring) < length parts.now) }
+    ensures fits { OnOk result (length parts.now ≤ length (unowned_descriptors driver.old.ring)) }
     ensures head { IfOk result (λ head. head ≡ next_head driver.old.ring (length parts.now)) }
     ensures state { OnOk result (driver.new
         ≡ record driver.old { ring = with_chain driver.old.ring (length parts.now) }) }

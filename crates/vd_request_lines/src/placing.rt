@@ -9,7 +9,7 @@ ghost use Rattle.vd_model.specs.RingTurns.{needed_descriptors, placed_mappings};
 ghost use Rattle.vd_domain.specs.Seen.{ring_map};
 ghost use Rattle.vd_memory_lines.specs.Stands.{Stands, IsHeld as IsOut, IsReached as IsKnown};
 ghost use Rattle.vr_split.specs.Reach.{RingInReach};
-ghost use Rattle.vr_driver.specs.Side.{free_descriptors};
+ghost use Rattle.vr_driver.specs.Side.{unowned_descriptors};
 ghost use Rattle.blk_driver.specs.Asked.{IsAsked, asked_in, draft_of, front_bytes, wants_of};
 ghost use Rattle.blk_driver.specs.Buffers.{has_range};
 ghost use Rattle.blk_driver.specs.declared.driver.SubmitError.TheVariants.{Full, NoSpace, Memory as OutOfMemory};
@@ -50,7 +50,7 @@ fn submitted(
     requires in_reach { RingInReach (Some (ring_map memory.old.domain)) None driver.old.ring.place }
     requires asked { IsAsked filing.now.ask }
     requires buffer { filing.now.buffer + 1 < 2 ^ 64 }
-    ensures full { (result ≡ Err Full) ↔ (length (free_descriptors driver.old.ring) <
+    ensures full { (result ≡ Err Full) ↔ (length (unowned_descriptors driver.old.ring) <
         needed_descriptors (has_feature filing.now.features 28) (asked_in filing.now.ask)) }
     ensures no_space { result ≡ Err NoSpace → (x : Setting) (acts : List Act) → Stands x acts memory.old pool.old → has_range acts filing.now.buffer 0 17 ≡ true →
         placed_mappings x (taken_slots acts) (maps acts) (wants_of (draft_of filing.now.ask filing.now.buffer filing.now.features)) ≡ None }
@@ -97,7 +97,7 @@ pub fn placed(
     requires in_reach { RingInReach (Some (ring_map memory.old.domain)) None driver.old.ring.place }
     requires asked { IsAsked ask.now }
     ensures none { (x : Setting) (acts : List Act) → Stands x acts memory.old pool.old →
-        IfOk result (λ found. found ≡ None → HasNoPlace x acts (draft_of ask.now (buffers acts) features) (length (free_descriptors driver.old.ring))) }
+        IfOk result (λ found. found ≡ None → HasNoPlace x acts (draft_of ask.now (buffers acts) features) (length (unowned_descriptors driver.old.ring))) }
     ensures stays { (x : Setting) (acts : List Act) → Stands x acts memory.old pool.old →
         IsNotPlaced result → Stands x acts memory.new pool.new }
     ensures same { IsNotPlaced result → driver.new ≡ driver.old }

@@ -13,7 +13,7 @@ use Rattle.vd_model.specs.Acts.{Act, Driver, Driver_put}
 use Rattle.vd_model.specs.Rings.{available_slot_at, IsRingSize}
 use Rattle.vd_model.specs.RingTurns.{descriptor_puts, descriptor_bytes, flags_of, slot_put, first_of}
 use Rattle.vd_domain.specs.Handed.{is_coherent}
-use Rattle.vr_driver.specs.Side.{DriverSide, next_chain, free_from, free_descriptors}
+use Rattle.vr_driver.specs.Side.{DriverSide, next_chain, free_from, unowned_descriptors}
 use Rattle.vr_driver.specs.Driver.{chain_written, with_parts}
 use Rattle.vd_ring_memory.specs.RingPuts.{after_puts, IsRingPut, AreRingPuts}
 use Rattle.vd_queue_sides.proofs.Chained.{chain_puts, slot_same}
@@ -41,7 +41,7 @@ whole_turns size s =
 -- what the least free descriptors are
 pub next_inside : (s : DriverSide) (n d : ℕ) → list_any (λ k. k == d) (next_chain s n) ≡ true → d < length s.owners
 next_inside s n d e =
-    let f = free_none s.owners 0 d (any_taken (λ k. k == d) n (free_descriptors s) e) in
+    let f = free_none s.owners 0 d (any_taken (λ k. k == d) n (unowned_descriptors s) e) in
     let high = f.1 in
     omega arith
 
@@ -69,7 +69,7 @@ module _ (base : List Act) where
         (in_table d p.at p.len (flags_of true p.writable) e (inside d (or_left (d == d) (list_any (λ k. k == d) (e ∷ ds)) (itself d))))
 
 -- an add writes its puts
-pub parts_put : (m : Memory) (s : DriverSide) (parts : List Part) (count : ℕ) → IsRingSize s.place.size → s.added ≡ count % 65536 → length parts ≤ length (free_descriptors s)
+pub parts_put : (m : Memory) (s : DriverSide) (parts : List Part) (count : ℕ) → IsRingSize s.place.size → s.added ≡ count % 65536 → length parts ≤ length (unowned_descriptors s)
     → after_puts m (slot_put s.place count (first_of (next_chain s (length parts))) ∷ descriptor_puts s.place parts (next_chain s (length parts))) ≡ with_parts m s parts
 parts_put m s parts count size added fits =
     let ds = next_chain s (length parts) in
@@ -86,7 +86,7 @@ free_few k (None ∷ owners) = let rest = free_few (k + 1) owners in omega arith
 free_few k (Some head ∷ owners) = let rest = free_few (k + 1) owners in omega arith
 
 -- an add is refused where too few are free
-pub refused_full : (r : Result ℕ AddError) (s : DriverSide) (n : ℕ) → length s.owners ≡ s.place.size → (r ≡ Err TooLong ↔ (s.place.size < n)) → (r ≡ Err Full ↔ ((n ≤ s.place.size) × (length (free_descriptors s) < n))) → OnErr r (length (free_descriptors s) < n)
+pub refused_full : (r : Result ℕ AddError) (s : DriverSide) (n : ℕ) → length s.owners ≡ s.place.size → (r ≡ Err TooLong ↔ (s.place.size < n)) → (r ≡ Err Full ↔ ((n ≤ s.place.size) × (length (unowned_descriptors s) < n))) → OnErr r (length (unowned_descriptors s) < n)
 refused_full (Ok head) s n len long full = tt
 refused_full (Err TooLong) s n len long full = let over = long.0 refl in let few = free_few 0 s.owners in omega arith
 refused_full (Err Full) s n len long full = (full.0 refl).1

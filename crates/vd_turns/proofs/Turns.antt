@@ -6,7 +6,7 @@ use Rattle.std.proofs.lemmas.List.Folds.{concat-append}
 use Rattle.std.proofs.lemmas.Bool.Decides.{leb_tells}
 use Rattle.std.specs.List.{concat}
 use Rattle.vd_loop.specs.Outs.{Grows}
-use Rattle.vd_turns.specs.Turns.{state_after, replies_from, Follows}
+use Rattle.vd_turns.specs.Turns.{state_after, replies_from, RepliesFollow}
 
 module _ {S : Type 0} (step : S → List ℕ → S) (reply : S → List ℕ → List ℕ) where
   state_both : (s : S) (xs ys : List (List ℕ)) → state_after step s (xs ++ ys) ≡ state_after step (state_after step s xs) ys
@@ -21,15 +21,15 @@ module _ {S : Type 0} (step : S → List ℕ → S) (reply : S → List ℕ → 
   pub replies_grow : (s : S) → Grows (replies_from step reply s)
   replies_grow s xs ys = (replies_from step reply (state_after step s xs) ys, replies_both s xs ys)
 
-  pub follows_first : (s : S) → Follows step reply s [] [] s
+  pub follows_first : (s : S) → RepliesFollow step reply s [] [] s
   follows_first s = record { state = refl; count = refl; each = none } where
     none : (k : ℕ) → concat (take k []) ≡ replies_from step reply s (take k [])
     none zero = refl
     none (suc k) = refl
 
   -- a line more
-  pub follows_more : (first now : S) (done replies : List (List ℕ)) (line : List ℕ) → Follows step reply first done replies now
-      → Follows step reply first (done ++ line ∷ []) (replies ++ reply now line ∷ []) (step now line)
+  pub follows_more : (first now : S) (done replies : List (List ℕ)) (line : List ℕ) → RepliesFollow step reply first done replies now
+      → RepliesFollow step reply first (done ++ line ∷ []) (replies ++ reply now line ∷ []) (step now line)
   follows_more first now done replies line f = record {
     state = ap (λ s. step s line) f.state ∙ sym (state_both first done (line ∷ []));
     count = (let count = f.count in let one = length-append done (line ∷ []) in let other = length-append replies (reply now line ∷ []) in omega (arith, count, one, other));

@@ -13,7 +13,7 @@ replies_from step reply s [] = []
 replies_from step reply s (line ∷ rest) = reply s line ++ replies_from step reply (step s line) rest
 
 -- from this state on these lines were answered by these replies, and led to that state
-pub record Follows {S : Type 0} (step : S → List ℕ → S) (reply : S → List ℕ → List ℕ) (first : S) (done replies : List (List ℕ)) (now : S) : Type 0 where
+pub record RepliesFollow {S : Type 0} (step : S → List ℕ → S) (reply : S → List ℕ → List ℕ) (first : S) (done replies : List (List ℕ)) (now : S) : Type 0 where
   pub state : now ≡ state_after step first done
   pub count : length replies ≡ length done
   pub each : (k : ℕ) → concat (take k replies) ≡ replies_from step reply first (take k done)

@@ -46,8 +46,8 @@ abbrev pub side_of : RingPlace → DriverSide
 side_of place = record { place = place; owners = replicate place.size None; announced = replicate place.size false; added = 0; published = 0; reclaimed = 0 }
 
 -- the free descriptors, ascending
-abbrev pub free_descriptors : DriverSide → List ℕ
-free_descriptors s = free_from 0 s.owners
+abbrev pub unowned_descriptors : DriverSide → List ℕ
+unowned_descriptors s = free_from 0 s.owners
 
 -- the least free descriptors, which the next chain of n takes, and the first of them
 abbrev pub next_chain : DriverSide → ℕ → List ℕ

@@ -3,7 +3,7 @@ ghost use Rattle.std.specs.Prelude.{◌≡◌, ◌≢◌, ◌+◌, ◌*◌, ◌<
 ghost use Rattle.std.specs.Option.{ForSome};
 ghost use Rattle.vr_split.specs.Mem.{IsUnchanged, Becomes};
 ghost use Rattle.vr_split.specs.Reach.{TableInReach, RingInReach, KeepsReach};
-ghost use Rattle.vr_driver.specs.Side.{side_of, free_descriptors, next_head, with_descriptors_taken, with_chain, all_published, is_waiting};
+ghost use Rattle.vr_driver.specs.Side.{side_of, unowned_descriptors, next_head, with_descriptors_taken, with_chain, all_published, is_waiting};
 ghost use Rattle.vr_driver.specs.Driver.{with_descriptor, with_descriptors, with_parts, with_table, with_index, is_kick_asked, is_kick_needed, next_completion, side_after, with_answer};
 ghost use Rattle.vr_driver.specs.declared.ring.AddError.TheVariants.{Full, TooLong};
 
@@ -116,7 +116,7 @@ impl DriverRing {
 
     /// How many descriptors are free.
     pub fn count_free(&self) -> usize
-        ensures free { result ≡ length (free_descriptors self.now) }
+        ensures free { result ≡ length (unowned_descriptors self.now) }
         ensures few { result ≤ self.now.place.size }
     {
         count_free(&self.owners)
@@ -127,7 +127,7 @@ impl DriverRing {
         requires in_reach { TableInReach (M.told mem.old) (M.span mem.old) self.old.place }
         requires some { 0 < length parts.now }
         requires few { length parts.now ≤ self.old.place.size }
-        requires enough { length parts.now ≤ length (free_descriptors self.old) }
+        requires enough { length parts.now ≤ length (unowned_descriptors self.old) }
         ensures head { result ≡ next_head self.old (length parts.now) }
         ensures side { self.new ≡ with_descriptors_taken self.old (length parts.now) }
         ensures written { Becomes M.told mem.old mem.new (λ m. with_descriptors m self.old parts.now) }
@@ -142,7 +142,7 @@ impl DriverRing {
     /// Puts the descriptor of an indirect table into the least free descriptor, and answers that one.
     fn place_table<M: Mem>(&mut self, mem: &mut M, d: &Descriptor) -> u16
         requires in_reach { TableInReach (M.told mem.old) (M.span mem.old) self.old.place }
-        requires enough { 0 < length (free_descriptors self.old) }
+        requires enough { 0 < length (unowned_descriptors self.old) }
         ensures head { result ≡ next_head self.old 1 }
         ensures side { self.new ≡ with_descriptors_taken self.old 1 }
         ensures written { Becomes M.told mem.old mem.new
@@ -162,7 +162,7 @@ impl DriverRing {
 
         ensures too_long { (result ≡ Err TooLong) ↔ (self.old.place.size < length parts.now) }
         ensures full { (result ≡ Err Full) ↔ ((length parts.now ≤ self.old.place.size)
-            × (length (free_descriptors self.old) < length parts.now)) }
+            × (length (unowned_descriptors self.old) < length parts.now)) }
         ensures head { IfOk result (λ head. head ≡ next_head self.old (length parts.now)) }
         ensures state { OnOk result (self.new ≡ with_chain self.old (length parts.now)) }
         ensures written { OnOk result (Becomes M.told mem.old mem.new
@@ -201,7 +201,7 @@ impl DriverRing {
         requires some { 0 < count }
 
         ensures too_long { result ≢ Err TooLong }
-        ensures full { (result ≡ Err Full) ↔ (free_descriptors self.old ≡ []) }
+        ensures full { (result ≡ Err Full) ↔ (unowned_descriptors self.old ≡ []) }
         ensures head { IfOk result (λ head. head ≡ next_head self.old 1) }
         ensures state { OnOk result (self.new ≡ with_chain self.old 1) }
         ensures written { OnOk result (Becomes M.told mem.old mem.new
