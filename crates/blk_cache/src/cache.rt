@@ -4,7 +4,7 @@ ghost use Rattle.std.specs.Prelude.{◌≡◌, ◌<◌, ◌≤◌, ◌+◌, ◌*
 ghost use Rattle.vd_io.specs.Told.{HasCause};
 ghost use Rattle.vd_io.specs.Sectors.{IsSpan};
 ghost use Rattle.blk_disk.specs.Contents.{AreWhole};
-ghost use Rattle.blk_disk.specs.Moments.{AreSingle};
+ghost use Rattle.blk_disk.specs.Moments.{AreSingle, Lie};
 ghost use Rattle.blk_dirty.specs.Dirty.{bytes_at, clean, piece, mark, AreLines};
 ghost use Rattle.blk_cache.specs.Cached.{now, newest_alone, Keeps, Moves};
 
@@ -128,6 +128,24 @@ impl<D: Disk + Drop> Cache<D> {
             self.write_back_one(sector)?;
         }
         Ok(())
+    }
+
+    /// Makes what was written to the disk stay there.
+    pub(crate) fn settle(&mut self) -> Result<(), Failed>
+        ensures kept { D.tells ≡ true → (s : ℕ) → D.present self.new.disk s ≡ D.present self.old.disk s }
+        ensures settled { D.tells ≡ true →
+            OnOk result (AreSingle (D.present self.new.disk) (D.may_leave self.new.disk)) }
+        ensures lists { D.tells ≡ true →
+            OnErr result ((s : ℕ) → D.may_leave self.new.disk s ≡ D.may_leave self.old.disk s) }
+        ensures moments { D.tells ≡ true → (map : ℕ → List (List ℕ)) → Lie map (D.may_leave self.old.disk) →
+            Lie map (D.may_leave self.new.disk) → D.through map self.old.disk self.new.disk }
+        ensures dirty { self.new.dirty ≡ self.old.dirty }
+        ensures size { D.size self.new.disk ≡ D.size self.old.disk }
+        ensures cause { HasCause (D.faults self.old.disk) (D.faults self.new.disk) result }
+        ensures lines { self.new.lines ≡ self.old.lines }
+        ensures flushes { self.new.flushes ≡ self.old.flushes }
+    {
+        self.disk.sync()
     }
 
     /// Makes room for a write of so many sectors from this one on.

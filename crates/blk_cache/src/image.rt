@@ -101,7 +101,7 @@ impl<D: Disk + Drop> Image for Cache<D> {
         ensures lines { self.new.lines ≡ self.old.lines }
     {
         self.write_back(0)?;
-        self.disk.sync()?;
+        self.settle()?;
         self.flushes = self.flushes.saturating_add(1);
         Ok(())
     }
