@@ -12,7 +12,7 @@ use vd_top::Exit;
 /// Why a program ended before its script was answered whole. Lines count from 1, comments and empty lines included.
 #[derive(Debug, Drop, Error)]
 pub enum Fault {
-    #[error("usage: vduse run [--page P] [--bounce-pages N] [--iova-pages N] [--sectors N | --image PATH] < SCRIPT")]
+    #[error("usage: vduse run|cached LINES [--page P] [--bounce-pages N] [--iova-pages N] [--sectors N | --image PATH] < SCRIPT")]
     Usage,
     #[error("cannot read the script after line {0}")]
     Read(u64),
@@ -30,12 +30,14 @@ pub enum Fault {
     Path,
     #[error("cannot tell the size of the image")]
     Size,
+    #[error("all lines were answered, and then the last flush of the cache failed")]
+    Unflushed,
 }
 
 impl Fault {
     /// Why a script ended so; none where it was answered whole. The quote is what follows the message on a line that isn't in the grammar.
     pub fn of_exit(exit: &Exit, quote: String) -> Option<Fault>
-        ensures { (is_status exit.now.status ≡ true) ⊎ (exit.now.status ≡ 2) →
+        ensures { (is_status exit.now.status ≡ true) ⊎ (exit.now.status ≡ 2) ⊎ (exit.now.status ≡ 9) →
             MatchOption result (exit.now.status ≡ 0) (λ fault. status_of fault ≡ exit.now.status) }
     {
         match exit.status {
@@ -45,6 +47,7 @@ impl Fault {
             5 => Some(Fault::Memory(exit.lines_done)),
             6 => Some(Fault::Grammar(exit.line, quote)),
             7 => Some(Fault::Long(exit.line)),
+            9 => Some(Fault::Unflushed),
             _ => Some(Fault::Usage),
         }
     }
@@ -61,6 +64,7 @@ impl Fault {
             Fault::Grammar(..) => 6,
             Fault::Long(_) => 7,
             Fault::Image(_) | Fault::Path | Fault::Size => 8,
+            Fault::Unflushed => 9,
         }
     }
 }

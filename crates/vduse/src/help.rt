@@ -13,8 +13,9 @@ pub enum Help {
 const PROGRAMS: &str = "\
 vduse - the kernel side of VDUSE and a block daemon, as a script asks them
 
-usage: vduse run [OPTIONS] < SCRIPT     answers each line of a script by one line
-       vduse help run                   says the options, limits and statuses of a run
+usage: vduse run [OPTIONS] < SCRIPT            answers each line of a script by one line
+       vduse cached LINES [OPTIONS] < SCRIPT   the same over a write-back cache of LINES dirty sectors
+       vduse help run                          says the options, limits and statuses of both
        vduse --version
 
 Try: vduse run < examples/first.script
@@ -22,6 +23,7 @@ The lines of a script: docs/SCRIPT.md, or man 5 vduse-script";
 
 const RUN: &str = "\
 usage: vduse run [OPTIONS] < SCRIPT
+       vduse cached LINES [OPTIONS] < SCRIPT
 
 A script comes on standard input, and one reply for each line that asks for something goes to standard output.
 
@@ -30,6 +32,7 @@ A script comes on standard input, and one reply for each line that asks for some
   --iova-pages N     slots of the I/O address space, above the bounce slots and up to 65536 (32768)
   --sectors N        sectors of 512 bytes of an image in memory, 0 to 131072 (2048)
   --image PATH       a file that is the image, in place of --sectors
+  LINES              at most so many sectors stay unwritten in the cache, 1 to 65536; it is flushed at the end
 
 status 0  every line was answered
        2  other words than these; nothing was read
@@ -37,6 +40,7 @@ status 0  every line was answered
        5  no memory                       6  a line is not in the grammar
        7  a line has more than 65536 bytes, or the script more than 67108864
        8  the image cannot be opened; nothing was read
+       9  every line was answered, and then the last flush of the cache failed
 A refused line (err N, bus A) does not end a run. Why a run ended is said on standard error.";
 
 const VERSION: &str = "vduse 0.1.0 (VDUSE of Linux 6.1, virtio 1.2)";

@@ -9,6 +9,7 @@
 //! one line on standard error. Words that ask for help are answered on standard output.
 #![tactic(auto)]
 
+mod cached;
 mod fault;
 mod help;
 mod quote;
@@ -33,15 +34,21 @@ fn words<R: Env + AllocGlobal>(rt: &R) -> io::Result<Vec<String>> {
     Ok(words)
 }
 
-/// The image in the file of this path.
-fn open_image(rt: &HostRuntime, path: &[u8]) -> Result<FileImage<File>, Fault> {
+/// The file of this path, open for reading and writing.
+fn open_file(rt: &HostRuntime, path: &[u8]) -> Result<File, Fault> {
     let Ok(path) = str::from_utf8(path) else {
         return Err(Fault::Path);
     };
-    match OpenOptions::new().read(true).write(true).open(rt, path) {
-        Ok(file) => FileImage::new(file).map_err(|_| Fault::Size),
-        Err(error) => Err(Fault::Image(error)),
-    }
+    OpenOptions::new()
+        .read(true)
+        .write(true)
+        .open(rt, path)
+        .map_err(Fault::Image)
+}
+
+/// The image in the file of this path.
+fn open_image(rt: &HostRuntime, path: &[u8]) -> Result<FileImage<File>, Fault> {
+    FileImage::new(open_file(rt, path)?).map_err(|_| Fault::Size)
 }
 
 /// Runs the script of standard input over this image.
@@ -72,8 +79,8 @@ fn run_in_file(rt: &HostRuntime, words: &Vec<String>, path: &[u8]) -> Option<Fau
     }
 }
 
-/// Runs what the words ask for; none where it was answered whole.
-fn run_words(rt: &HostRuntime, words: &Vec<String>) -> Option<Fault> {
+/// Runs a script over the image itself, as the words ask for; none where it was answered whole.
+fn run_script(rt: &HostRuntime, words: &Vec<String>) -> Option<Fault> {
     match read_words(rt.alloc(), words) {
         Err(WordsError::Usage) => run_in_memory(rt, words, 0),
         Err(WordsError::Memory) => Some(Fault::Memory(0)),
@@ -81,6 +88,14 @@ fn run_words(rt: &HostRuntime, words: &Vec<String>) -> Option<Fault> {
             None => run_in_memory(rt, words, options.sectors),
             Some(path) => run_in_file(rt, words, path.as_slice()),
         },
+    }
+}
+
+/// Runs what the words ask for.
+fn run_words(rt: &HostRuntime, words: &Vec<String>) -> Option<Fault> {
+    match words.first().map(String::as_str) {
+        Some("cached") => cached::run(rt, words),
+        _ => run_script(rt, words),
     }
 }
 
