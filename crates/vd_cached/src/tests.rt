@@ -148,11 +148,13 @@ fn run(
 
 #[test]
 fn session_over_a_cache(rt: HostRuntime) -> Result<(), Fail> {
-    let (status, disk) = run(&rt, rt.alloc(), &SESSION, &[])?;
-    assert_eq!(rt; status, 0);
-    let disk = disk.crash(u64::MAX);
-    let sector = disk.as_slice().get(4096..4099).unwrap_or(b"");
-    assert_eq!(rt; sector, b"ab\0".as_slice());
+    for pick in [0, 1, 2, u64::MAX] {
+        let (status, disk) = run(&rt, rt.alloc(), &SESSION, &[])?;
+        assert_eq!(rt; status, 0);
+        let disk = disk.crash(pick);
+        let sector = disk.as_slice().get(4096..4099).unwrap_or(b"");
+        assert_eq!(rt; sector, b"ab\0".as_slice());
+    }
     Ok(())
 }
 
