@@ -36,8 +36,10 @@ impl<D: Disk + Drop> Image for Cache<D> {
         ensures cause { HasCause (D.faults self.old.disk) (D.faults self.new.disk) result }
 
         // Nothing else is kept, and a crash within the call leaves what is.
-        ensures crash { D.tells ≡ true → (kept : ℕ → List (List ℕ)) → Keeps kept (now self.old.dirty (D.present self.old.disk)) (D.may_leave self.old.disk) →
-            D.through kept self.old.disk self.new.disk × Keeps kept (now self.new.dirty (D.present self.new.disk)) (D.may_leave self.new.disk) }
+        ensures crash { D.tells ≡ true → (kept : ℕ → List (List ℕ)) →
+            Keeps kept (now self.old.dirty (D.present self.old.disk)) (D.may_leave self.old.disk) →
+            D.through kept self.old.disk self.new.disk
+            × Keeps kept (now self.new.dirty (D.present self.new.disk)) (D.may_leave self.new.disk) }
         ensures dirty { self.new.dirty ≡ self.old.dirty }
         ensures lines { self.new.lines ≡ self.old.lines }
     {
@@ -53,23 +55,27 @@ impl<D: Disk + Drop> Image for Cache<D> {
         ensures written { OnOk result (IsWritten sector bytes.now
             (content_of D.tells (now self.old.dirty (D.present self.old.disk)) (D.size self.old.disk))
             (content_of D.tells (now self.new.dirty (D.present self.new.disk)) (D.size self.new.disk))) }
-        ensures kept { OnErr result (content_of D.tells (now self.new.dirty (D.present self.new.disk)) (D.size self.new.disk)
+        ensures kept { OnErr result
+            (content_of D.tells (now self.new.dirty (D.present self.new.disk)) (D.size self.new.disk)
             ≡ content_of D.tells (now self.old.dirty (D.present self.old.disk)) (D.size self.old.disk)) }
         ensures size { D.size self.new.disk ≡ D.size self.old.disk }
         ensures flushes { self.new.flushes ≡ self.old.flushes }
         ensures cause { HasCause (D.faults self.old.disk) (D.faults self.new.disk) result }
 
         // What the write gives its sectors is kept too, and a crash within the call leaves what is.
-        ensures crash { D.tells ≡ true → (kept : ℕ → List (List ℕ)) → Keeps kept (now self.old.dirty (D.present self.old.disk)) (D.may_leave self.old.disk) →
+        ensures crash { D.tells ≡ true → (kept : ℕ → List (List ℕ)) →
+            Keeps kept (now self.old.dirty (D.present self.old.disk)) (D.may_leave self.old.disk) →
             D.through (kept_with sector bytes.now kept) self.old.disk self.new.disk
-            × Keeps (kept_with sector bytes.now kept) (now self.new.dirty (D.present self.new.disk)) (D.may_leave self.new.disk) }
+            × Keeps (kept_with sector bytes.now kept) (now self.new.dirty (D.present self.new.disk))
+            (D.may_leave self.new.disk) }
 
         // At most `lines` sectors are dirty afterwards, if no call on the disk failed.
         ensures bounded { OnOk result ((Rose (D.faults self.old.disk) (D.faults self.new.disk) → ⊥)
             → self.new.dirty.len ≤ self.new.lines) }
 
         // Where its sectors fit beside the dirty ones, the disk isn't called.
-        ensures idle { self.old.dirty.len + clean (bytes_at self.old.dirty) sector (length bytes.now / 512) ≤ self.old.lines →
+        ensures idle { self.old.dirty.len + clean (bytes_at self.old.dirty) sector
+            (length bytes.now / 512) ≤ self.old.lines →
             D.clock self.new.disk ≡ D.clock self.old.disk }
         ensures lines { self.new.lines ≡ self.old.lines }
     {
@@ -90,9 +96,12 @@ impl<D: Disk + Drop> Image for Cache<D> {
         ensures cause { HasCause (D.faults self.old.disk) (D.faults self.new.disk) result }
 
         // A crash within the call leaves what is kept; afterwards the newest contents alone.
-        ensures crash { D.tells ≡ true → (kept : ℕ → List (List ℕ)) → Keeps kept (now self.old.dirty (D.present self.old.disk)) (D.may_leave self.old.disk) →
-            D.through kept self.old.disk self.new.disk × Keeps kept (now self.new.dirty (D.present self.new.disk)) (D.may_leave self.new.disk) }
-        ensures settled { D.tells ≡ true → OnOk result (Keeps (newest_alone (now self.old.dirty (D.present self.old.disk)))
+        ensures crash { D.tells ≡ true → (kept : ℕ → List (List ℕ)) →
+            Keeps kept (now self.old.dirty (D.present self.old.disk)) (D.may_leave self.old.disk) →
+            D.through kept self.old.disk self.new.disk
+            × Keeps kept (now self.new.dirty (D.present self.new.disk)) (D.may_leave self.new.disk) }
+        ensures settled { D.tells ≡ true →
+            OnOk result (Keeps (newest_alone (now self.old.dirty (D.present self.old.disk)))
             (now self.new.dirty (D.present self.new.disk)) (D.may_leave self.new.disk)) }
         ensures single { D.tells ≡ true →
             OnOk result (AreSingle (D.present self.new.disk) (D.may_leave self.new.disk)) }

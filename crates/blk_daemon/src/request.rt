@@ -39,7 +39,10 @@ impl Model for Request {
 
     ghost Value = { InHand };
 
-    ghost view = { λ r. record { hand = hand_with r.chain r.bytes.items; outcome = outcome_of r.is_executed r.answer.items } };
+    ghost view = { λ r. record {
+      hand = hand_with r.chain r.bytes.items;
+      outcome = outcome_of r.is_executed r.answer.items;
+    } };
 
     ghost invariant = { λ r. IsSound r.chain r.bytes.items r.answer.items r.is_executed };
 }
@@ -106,7 +109,8 @@ impl Request {
     pub fn execute<I: Image>(&mut self, disk: &mut I, device: &Device) -> Executed
         requires fresh { self.old.outcome ≡ None }
         requires window { device.now.window.first + device.now.window.count ≤ I.size disk.old }
-        ensures executed { (end : Execution) × (self.new ≡ record self.old { outcome = Some end }) × (result.status ≡ end.status)
+        ensures executed { (end : Execution) × (self.new ≡ record self.old { outcome = Some end })
+            × (result.status ≡ end.status)
             × Executes I.content I.faults I.flushes device.now.window device.now.offered device.now.name.now
             (block_of self.old.hand.bytes self.old.hand.writable) result.failed disk.old disk.new end }
         ensures size { I.size disk.new ≡ I.size disk.old }

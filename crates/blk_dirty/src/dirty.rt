@@ -31,7 +31,9 @@ impl Model for Dirty {
 
     ghost view = { λ d. record { lines = d.lines.items; len = d.room - length d.spare.items; room = d.room } };
 
-    ghost invariant = { λ d. IsSound (record { lines = d.lines.items; len = d.room - length d.spare.items; room = d.room }) (length d.spare.items) (vec_capacity d.spare) };
+    ghost invariant = { λ d. IsSound
+        (record { lines = d.lines.items; len = d.room - length d.spare.items; room = d.room })
+        (length d.spare.items) (vec_capacity d.spare) };
 }
 
 /// No line for each of so many sectors.

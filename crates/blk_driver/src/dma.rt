@@ -29,12 +29,15 @@ pub trait Dma: Mem {
     /// Appends the bytes of a range of a buffer.
     fn copy(&self, want: &Want, into: &mut Bytes) -> Result<(), AllocError>
         ensures len { OnOk result (length into.new ≡ length into.old + want.now.len) }
-        ensures bytes { (x : Setting) (acts : List Act) → stands self.now x acts → has_range acts want.now.buffer want.now.offset want.now.len ≡ true →
-            OnOk result (into.new ≡ into.old ++ ram_bytes x.per_page acts want.now.buffer want.now.offset want.now.len) };
+        ensures bytes { (x : Setting) (acts : List Act) → stands self.now x acts →
+            has_range acts want.now.buffer want.now.offset want.now.len ≡ true →
+            OnOk result (into.new ≡ into.old
+            ++ ram_bytes x.per_page acts want.now.buffer want.now.offset want.now.len) };
 
     /// Writes bytes into a buffer.
     fn fill(&mut self, buffer: u64, offset: u64, bytes: &[u8])
-        ensures filled { (x : Setting) (acts : List Act) → stands self.old x acts → has_range acts buffer offset (length bytes.now) ≡ true →
+        ensures filled { (x : Setting) (acts : List Act) → stands self.old x acts →
+            has_range acts buffer offset (length bytes.now) ≡ true →
             stands self.new x (Driver (Poked buffer offset bytes.now) ∷ acts) }
         ensures memory { IsUnchanged Self.told Self.span keeps_rest self.old self.new };
 
@@ -43,8 +46,10 @@ pub trait Dma: Mem {
     fn map_all(&mut self, wants: &[Want], bytes: &[u8]) -> Result<u64, MapError>
         requires some { 0 < length wants.now }
         requires text { length bytes.now ≡ bytes_of wants.now }
-        ensures mapped { (x : Setting) (acts : List Act) (ms : List Streaming) → stands self.old x acts → bytes.now ≡ wanted_bytes x.per_page acts wants.now →
-            placed_mappings x (taken_slots acts) (maps acts) wants.now ≡ Some ms → OnOk result (stands self.new x (map_acts ms ++ acts)) }
+        ensures mapped { (x : Setting) (acts : List Act) (ms : List Streaming) → stands self.old x acts →
+            bytes.now ≡ wanted_bytes x.per_page acts wants.now →
+            placed_mappings x (taken_slots acts) (maps acts) wants.now ≡ Some ms →
+            OnOk result (stands self.new x (map_acts ms ++ acts)) }
         ensures placed { (x : Setting) (acts : List Act) → stands self.old x acts → IfOk result (λ number.
             (number ≡ maps acts) × (is_some (placed_mappings x (taken_slots acts) (maps acts) wants.now) ≡ true)) }
         ensures room { IfOk result (λ number. number + length wants.now < 2 ^ 64) }
@@ -57,11 +62,13 @@ pub trait Dma: Mem {
 
     /// The address of a live mapping.
     fn iova(&self, number: u64) -> u64
-        ensures { (x : Setting) (acts : List Act) (m : Streaming) → stands self.now x acts → live_mapping acts number ≡ Some m → result ≡ iova_of m };
+        ensures { (x : Setting) (acts : List Act) (m : Streaming) → stands self.now x acts →
+            live_mapping acts number ≡ Some m → result ≡ iova_of m };
 
     /// Copies the buffer's bytes into a live mapping towards the device again.
     fn refresh(&mut self, number: u64)
-        ensures refreshed { (x : Setting) (acts : List Act) (m : Streaming) → stands self.old x acts → live_mapping acts number ≡ Some m →
+        ensures refreshed { (x : Setting) (acts : List Act) (m : Streaming) → stands self.old x acts →
+            live_mapping acts number ≡ Some m →
             is_to_device m.want.dir ≡ true → stands self.new x (Driver (Synced_device m) ∷ acts) }
         ensures memory { IsUnchanged Self.told Self.span keeps_rest self.old self.new };
 

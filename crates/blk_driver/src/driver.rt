@@ -219,7 +219,8 @@ impl BlkDriver {
         ensures full { (result ≡ Err SubmitError.Full) ↔
             (length (unowned_descriptors self.old.ring) < needed_descriptors (has_feature features 28)
             (asked_in ask)) }
-        ensures no_space { result ≡ Err SubmitError.NoSpace → (x : Setting) (acts : List Act) → P.stands port.old x acts → has_range acts buffers 0 17 ≡ true →
+        ensures no_space { result ≡ Err SubmitError.NoSpace → (x : Setting) (acts : List Act) →
+            P.stands port.old x acts → has_range acts buffers 0 17 ≡ true →
             placed_mappings x (taken_slots acts) (maps acts) (wants_of (draft_of ask buffers features)) ≡ None }
         ensures submitted { IfOk result
             (λ r. Submits P.told P.span P.keeps P.keeps_rest P.stands port.old
@@ -229,7 +230,8 @@ impl BlkDriver {
         ensures err { OnErr result (self.new ≡ self.old) }
         ensures untouched { result ≡ Err SubmitError.Full → port.new ≡ port.old }
         ensures refused { OnErr result (IsUnchanged P.told P.span P.keeps_rest port.old port.new) }
-        ensures filled { result ≢ Err SubmitError.Full → (x : Setting) (acts : List Act) → P.stands port.old x acts → has_range acts buffers 0 17 ≡ true →
+        ensures filled { result ≢ Err SubmitError.Full → (x : Setting) (acts : List Act) →
+            P.stands port.old x acts → has_range acts buffers 0 17 ≡ true →
             OnErr result (P.stands port.new x (Driver_act (Poked buffers 0 (front_bytes ask tag)) ∷ acts)) }
 
         // The ring is in reach still, and so is all that was.
@@ -301,7 +303,8 @@ impl BlkDriver {
         ensures none { (result ≡ None) ↔ (self.old.pending ≡ []) }
         ensures state { self.new ≡ without_pending (least_of self.old.pending) self.old }
         ensures unmapped { (x : Setting) (acts : List Act) → P.stands port.old x acts →
-            P.stands port.new x (unmap_acts (live_mappings acts) (option_map_or maps_in (least_of self.old.pending) []) ++ acts) }
+            P.stands port.new x (unmap_acts (live_mappings acts)
+            (option_map_or maps_in (least_of self.old.pending) []) ++ acts) }
         ensures memory { IsUnchanged P.told P.span P.keeps_rest port.old port.new }
     {
         match pending::least(&self.requests) {

@@ -122,7 +122,8 @@ fn publish_parts<P: Dma>(
     requires enough { chain_len draft.now.indirect parts.now ≤ length (unowned_descriptors ring.old) }
     requires size { length (unowned_descriptors ring.old) ≤ ring.old.place.size }
     requires buffer { draft.now.buffer + 1 < 2 ^ 64 }
-    ensures placed { (first : ℕ) → number ≡ first + length parts.now → AreParts P.stands port.old first (part_wants draft.now.buffer (asked_in draft.now.ask)) parts.now →
+    ensures placed { (first : ℕ) → number ≡ first + length parts.now →
+        AreParts P.stands port.old first (part_wants draft.now.buffer (asked_in draft.now.ask)) parts.now →
         chain_len draft.now.indirect parts.now ≡ needed_descriptors draft.now.indirect (asked_in draft.now.ask) →
         IsPlaced P.told P.span P.keeps P.keeps_rest P.stands port.old draft.now first ring.old ring.new result port.new }
     ensures in_reach { RingInReach (P.told port.new) (P.span port.new) ring.new.place }

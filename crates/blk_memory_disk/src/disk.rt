@@ -119,7 +119,8 @@ impl Disk for MemDisk {
         requires inside { IsSpan self.old.stored.sectors sector (length bytes.now) }
         requires one { length bytes.now ≡ 512 }
         ensures written { OnOk result (content_at self.new.stored.bytes sector ≡ bytes.now) }
-        ensures either { IsEither sector bytes.now (content_at self.old.stored.bytes) (content_at self.new.stored.bytes) }
+        ensures either { IsEither sector bytes.now (content_at self.old.stored.bytes)
+            (content_at self.new.stored.bytes) }
         ensures others { (s : ℕ) → s ≢ sector →
             content_at self.new.stored.bytes s ≡ content_at self.old.stored.bytes s }
         ensures lists { IsListedWrite sector bytes.now (list_at self.old.stored) (list_at self.new.stored) }

@@ -35,7 +35,8 @@ impl Model for Store {
 
     ghost view = { λ d. record { sectors = d.sectors; bytes = d.bytes.items; older = d.older.items; room = d.room } };
 
-    ghost invariant = { λ d. (length d.bytes.items ≡ 512 * d.sectors) × (512 * d.sectors < 2 ^ 64) × (length d.older.items ≤ d.room) × (d.room ≤ vec_capacity d.older) };
+    ghost invariant = { λ d. (length d.bytes.items ≡ 512 * d.sectors) × (512 * d.sectors < 2 ^ 64)
+        × (length d.older.items ≤ d.room) × (d.room ≤ vec_capacity d.older) };
 }
 
 /// Forgets the older contents of a sector.

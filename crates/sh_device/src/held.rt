@@ -30,9 +30,26 @@ impl<N: Naming> Model for Held<N> {
 
     ghost Value = { HeldView };
 
-    ghost view = { λ h. record { note = h.note; number = h.number; iova = h.iova; len = h.len; dir = h.dir; stamp = h.stamp; coherent = h.coherent } };
+    ghost view = { λ h. record {
+      note = h.note;
+      number = h.number;
+      iova = h.iova;
+      len = h.len;
+      dir = h.dir;
+      stamp = h.stamp;
+      coherent = h.coherent;
+    } };
 
-    ghost invariant = { λ h. IsHeld N.numbers (record { note = h.note; number = h.number; iova = h.iova; len = h.len; dir = h.dir; stamp = h.stamp; coherent = h.coherent }) };
+    ghost invariant = { λ h. IsHeld N.numbers
+        (record {
+          note = h.note;
+          number = h.number;
+          iova = h.iova;
+          len = h.len;
+          dir = h.dir;
+          stamp = h.stamp;
+          coherent = h.coherent;
+        }) };
 }
 
 impl<N: Naming> Held<N> {

@@ -22,6 +22,3 @@ pub use memory::{MapRefused, UnmapRefused};
 pub use messages::SendAnswer;
 pub use sh_cells::{DaemonPass, DriverPass, Log, Pass};
 pub use sh_parts::{DomainState, MessageState, Naming, Note};
-
-#[cfg(test)]
-mod tests;

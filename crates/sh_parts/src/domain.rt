@@ -64,11 +64,20 @@ impl Model for NewDomain {
 
     ghost Value = { NewDomainView };
 
-    ghost view = { λ d. record { table = d.journal.seat.table_id; entries = d.journal.entries.items; bounce = d.memory.bounce_pages; pages = d.memory.coherent.«end» } };
+    ghost view = { λ d. record {
+      table = d.journal.seat.table_id;
+      entries = d.journal.entries.items;
+      bounce = d.memory.bounce_pages;
+      pages = d.memory.coherent.«end»;
+    } };
 
     ghost invariant = { λ d. (d.journal.kind ≡ Domain)
         × IsSound d.memory
-        × ((t : ℕ) → Stands (record { bounce = d.memory.bounce_pages; pages = d.memory.coherent.«end»; timeout = t }) [] d.memory)
+        × ((t : ℕ) → Stands (record {
+          bounce = d.memory.bounce_pages;
+          pages = d.memory.coherent.«end»;
+          timeout = t;
+        }) [] d.memory)
         × (d.memory.next ≡ 0) };
 }
 

@@ -66,7 +66,12 @@ impl<N: Naming> Model for Journal<N> {
 
     ghost Value = { JournalView };
 
-    ghost view = { λ j. record { kind = j.kind; entries = j.entries.items; noted = j.seat.me.0.noted; room = vec_capacity j.entries - vec_len j.entries } };
+    ghost view = { λ j. record {
+      kind = j.kind;
+      entries = j.entries.items;
+      noted = j.seat.me.0.noted;
+      room = vec_capacity j.entries - vec_len j.entries;
+    } };
 
     ghost invariant = { λ j. (j.table.shared.table_id ≡ table_of N.domain N.messages j.kind)
         × (j.seat.table_id ≡ j.table.shared.table_id)

@@ -67,9 +67,14 @@ impl Model for NewMessages {
 
     ghost Value = { NewMessagesView };
 
-    ghost view = { λ m. record { table = m.journal.seat.table_id; entries = m.journal.entries.items; timeout = m.timeout } };
+    ghost view = { λ m. record {
+      table = m.journal.seat.table_id;
+      entries = m.journal.entries.items;
+      timeout = m.timeout;
+    } };
 
-    ghost invariant = { λ m. (m.journal.kind ≡ Messages) × Stands (record { timeout = m.timeout; first = 0 }) [] m.messages };
+    ghost invariant = { λ m. (m.journal.kind ≡ Messages)
+        × Stands (record { timeout = m.timeout; first = 0 }) [] m.messages };
 }
 
 impl SharedMessages<Brand> {

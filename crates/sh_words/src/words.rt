@@ -91,7 +91,8 @@ fn command<'a>(alloc: Global) -> Result<Command<'a>, AllocError>
 
 /// The run that was matched, if each number is there and in its range.
 fn options_in(matches: &ArgMatches) -> Option<WorkOptions>
-    ensures start { IfSome result (λ o. (o.start < 2 ^ 63) × HasNumber (rows_of (found_of matches.now)) (codes "start") o.start) }
+    ensures start { IfSome result
+        (λ o. (o.start < 2 ^ 63) × HasNumber (rows_of (found_of matches.now)) (codes "start") o.start) }
     ensures drivers { IfSome result (λ o. (1 ≤ o.drivers) × (o.drivers ≤ 8)
         × HasNumber (rows_of (found_of matches.now)) (codes "drivers") o.drivers) }
     ensures requests { IfSome result (λ o. (o.requests ≤ 20000)

@@ -11,8 +11,6 @@ mod control;
 mod device;
 mod iova;
 mod message;
-#[cfg(test)]
-mod tests;
 
 pub use control::{ApiVersion, DevConfig, DevName};
 pub use device::{ConfigData, VqConfig};

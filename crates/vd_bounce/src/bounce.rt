@@ -36,9 +36,20 @@ impl Model for BounceMap {
 
     ghost Value = { Bounce };
 
-    ghost view = { λ b. record { frames = b.frames.items; area = option_map (λ v. v.items) b.area; user = b.user; per_page = b.per_page } };
+    ghost view = { λ b. record {
+      frames = b.frames.items;
+      area = option_map (λ v. v.items) b.area;
+      user = b.user;
+      per_page = b.per_page;
+    } };
 
-    ghost invariant = { λ b. IsFit (record { frames = b.frames.items; area = option_map (λ v. v.items) b.area; user = b.user; per_page = b.per_page }) };
+    ghost invariant = { λ b. IsFit
+        (record {
+          frames = b.frames.items;
+          area = option_map (λ v. v.items) b.area;
+          user = b.user;
+          per_page = b.per_page;
+        }) };
 }
 
 impl BounceMap {
@@ -269,9 +280,11 @@ impl BounceMap {
             is_page_present self.old p ≡ true }
         ensures kept { Keeps self.old.frames self.new.frames pool.old pool.new }
         ensures bounce { (a : ℕ) → value self.new pool.new (Iova a)
-            ≡ (if slice_index_or in_use.now (a / page_size self.old) false then value self.old pool.old (Iova a) else 0) }
+            ≡ (if slice_index_or in_use.now (a / page_size self.old) false then value self.old pool.old
+            (Iova a) else 0) }
         ensures area { (o : ℕ) → value self.new pool.new (Area o)
-            ≡ (if is_within offset (bounce_len self.old) o && slice_index_or in_use.now ((o - offset) / page_size self.old) false
+            ≡ (if is_within offset (bounce_len self.old) o && slice_index_or in_use.now
+            ((o - offset) / page_size self.old) false
             then value self.old pool.old (Iova (o - offset)) else value self.old pool.old (Area o)) }
         ensures aside { (p : ℕ) → is_some (frame_of self.new.frames p) ≡ slice_index_or in_use.now p false }
         ensures same { SameShape (record self.old { user = Some offset }) self.new }
@@ -295,7 +308,8 @@ impl BounceMap {
             is_some (frame_of self.old.frames p) ≡ true }
         ensures kept { Keeps self.old.frames self.new.frames pool.old pool.new }
         ensures bounce { (a : ℕ) → value self.new pool.new (Iova a)
-            ≡ (if slice_index_or in_use.now (a / page_size self.old) false then value self.old pool.old (home_place self.old a) else 0) }
+            ≡ (if slice_index_or in_use.now (a / page_size self.old) false then value self.old pool.old
+            (home_place self.old a) else 0) }
         ensures area { (o : ℕ) → value self.new pool.new (Area o) ≡ value self.old pool.old (Area o) }
         ensures present { (p : ℕ) → is_page_present self.new p ≡ slice_index_or in_use.now p false }
         ensures same { SameShape (record self.old { user = None }) self.new }

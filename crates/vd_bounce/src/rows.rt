@@ -46,7 +46,8 @@ pub fn put(frames: &[Option<Frame>], pool: &mut Pool, size: usize, at: usize, by
     requires end { at + length bytes.now < 2 ^ 63 }
     ensures kept { Keeps frames.now frames.now pool.old pool.new }
     ensures bytes { (a : ℕ) → frame_byte size frames.now pool.new a
-        ≡ (if is_within at (length bytes.now) a then slice_index bytes.now (a - at) else frame_byte size frames.now pool.old a) }
+        ≡ (if is_within at (length bytes.now) a then slice_index bytes.now
+        (a - at) else frame_byte size frames.now pool.old a) }
     ensures spare { pool.new.spare ≡ pool.old.spare }
 {
     let mut done = 0;
@@ -176,7 +177,8 @@ fn copy_out(
     requires page { page < length frames.now }
     requires room { from + size * page + size ≤ length area.old }
     ensures { (o : ℕ) → slice_index area.new o
-        ≡ (if is_within (from + size * page) size o then frame_byte size frames.now pool.now (o - from) else slice_index area.old o) }
+        ≡ (if is_within (from + size * page) size o then frame_byte size frames.now pool.now
+        (o - from) else slice_index area.old o) }
 {
     let start = from + size * page;
     match &frames[page] {

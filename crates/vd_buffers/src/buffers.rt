@@ -115,7 +115,8 @@ impl Buffers {
     /// The bytes of a range, or why there is none: there is no such buffer, or it is empty or not within the buffer.
     pub fn range(&self, buffer: u64, offset: u64, len: u64) -> Result<&[u8], Errno>
         ensures bytes { (g : ℕ) (acts : List Act) → Stands g acts self.now → MatchResult result
-            (λ text. (range_refusal (model.buffer_len acts buffer) offset len ≡ None) × (text.now ≡ ram_bytes g acts buffer offset len))
+            (λ text. (range_refusal (model.buffer_len acts buffer) offset len ≡ None)
+            × (text.now ≡ ram_bytes g acts buffer offset len))
             (λ errno. range_refusal (model.buffer_len acts buffer) offset len ≡ Some errno) }
         ensures lies { IfOk result (λ text. IsRange self.now buffer offset len text.now) }
     {
@@ -132,7 +133,8 @@ impl Buffers {
     /// Writes bytes into a buffer, or answers why not, as for a range.
     pub fn poke(&mut self, buffer: u64, offset: u64, bytes: &[u8]) -> Result<(), Errno>
         ensures ok { (g : ℕ) (acts : List Act) → Stands g acts self.old → MatchResult result
-            (λ _. (range_refusal (model.buffer_len acts buffer) offset (length bytes.now) ≡ None) × Stands g (Driver (Poked buffer offset bytes.now) ∷ acts) self.new)
+            (λ _. (range_refusal (model.buffer_len acts buffer) offset (length bytes.now) ≡ None)
+            × Stands g (Driver (Poked buffer offset bytes.now) ∷ acts) self.new)
             (λ errno. range_refusal (model.buffer_len acts buffer) offset (length bytes.now) ≡ Some errno) }
         ensures err { OnErr result (self.new ≡ self.old) }
     {

@@ -1,6 +1,6 @@
 //! The whole of a run over a cache.
 
-ghost use Rattle.std.specs.Prelude.{◌≡◌, ◌⊎◌, ◌+◌, ℕ, List, [], Some, None, IfOk, IfErr, IsSome, map, take, length, string_bytes, true, false};
+ghost use Rattle.std.specs.Prelude.{◌≡◌, ◌⊎◌, ◌+◌, ◌↔◌, ℕ, List, [], Some, None, IfOk, IfErr, IsSome, map, take, length, string_bytes, true, false};
 ghost use Rattle.vd_io.specs.Told.{Rose};
 ghost use Rattle.vd_model.specs.Setting.{Setting};
 ghost use Rattle.vd_output.specs.Out.{stop_of, At_the_end, good_lines, history_after};
@@ -78,11 +78,13 @@ fn begin<D: Disk + Drop>(
         ≡ cached_sizes (map string_bytes words.now.items)) }
     ensures some { IfOk result (λ made. IsSome (cached_sizes (map string_bytes words.now.items))) }
     ensures disk { IfOk result (λ made. made.1.disk ≡ disk) }
-    ensures content { IfOk result (λ made. content_of D.tells (now made.1.dirty (D.present made.1.disk)) (D.size made.1.disk)
+    ensures content { IfOk result
+        (λ made. content_of D.tells (now made.1.dirty (D.present made.1.disk)) (D.size made.1.disk)
         ≡ content_of D.tells (D.present disk) (D.size disk)) }
     ensures kept { IfOk result (λ made. D.tells ≡ true →
         Keeps (newest_alone (D.present disk)) (now made.1.dirty (D.present made.1.disk)) (D.may_leave made.1.disk)) }
-    ensures usage { IfErr result (λ e. e.why ≡ WordsError.Usage → cached_sizes (map string_bytes words.now.items) ≡ None) }
+    ensures usage { IfErr result
+        (λ e. (e.why ≡ WordsError.Usage) ↔ (cached_sizes (map string_bytes words.now.items) ≡ None)) }
     ensures back { IfErr result (λ e. e.disk ≡ disk) }
 {
     let CachedWords { lines, run } = match read_cached_words(alloc, words) {
@@ -110,11 +112,9 @@ pub fn cached_top<S: Source, K: Sink, D: Disk + Drop>(
     // A crash leaves what the disk has at first.
     requires settled { D.tells ≡ true → AreSingle (D.present disk) (D.may_leave disk) }
 
-    // Status 2: only where the words have another form, and then always, want of memory apart; source, sink and disk are
-    // as they were.
+    // Status 2: exactly where the words have another form; source, sink and disk are as they were.
     ensures usage { cached_sizes (map string_bytes words.now.items) ≡ None →
-        ((result.exit.status ≡ 2) ⊎ (result.exit.status ≡ 5))
-        × (source.new ≡ source.old) × (sink.new ≡ sink.old) × (result.disk ≡ disk)
+        (result.exit.status ≡ 2) × (source.new ≡ source.old) × (sink.new ≡ sink.old) × (result.disk ≡ disk)
         × (result.exit.lines_done ≡ 0) × (result.exit.disk_failures ≡ []) }
 
     // No other status than those of a run and 9 is answered, and 2 for its words alone.
@@ -139,7 +139,8 @@ pub fn cached_top<S: Source, K: Sink, D: Disk + Drop>(
     // The laws of the run whose replies these are, and the conditions of the laws, as of every run.
     ensures laws { (sizes : Sizes) (x : Setting) (text : List ℕ) (n : ℕ) →
         IsGivenCached (map string_bytes words.now.items) sizes (S.left source.old) text → HasSizes x sizes →
-        IsAddressed x × IsWhole x × RunLaws x (history_after result.exit.disk_failures 1 [] (take n (good_lines text))) }
+        IsAddressed x × IsWhole x
+        × RunLaws x (history_after result.exit.disk_failures 1 [] (take n (good_lines text))) }
 
     // A fault of the outside is told only where there was one; 9 only where the disk failed once more than at lines.
     ensures source_failed { result.exit.status ≡ 3 → Rose (S.faults source.old) (S.faults source.new) }

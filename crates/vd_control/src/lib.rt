@@ -8,8 +8,6 @@
 
 mod check;
 mod space;
-#[cfg(test)]
-mod tests;
 
 pub use check::{check_config, check_version};
 pub use space::ConfigSpace;

@@ -45,8 +45,10 @@ pub fn execute<T: Hears, I: Image>(
     requires window { drive.now.window.first + drive.now.window.count ≤ I.size disk.old }
 
     // The status is told whatever the image tells of itself.
-    ensures line { (x : Setting) (made : Creation) (acts : List Act) (q : ℕ) (b : BlockDisk) → DaemonStands x acts q daemon.old →
-        IsKnown made acts q queue.now → IsDisk (I.content disk.old) drive.now.window drive.now.offered daemon.old.name b →
+    ensures line { (x : Setting) (made : Creation) (acts : List Act) (q : ℕ) (b : BlockDisk) →
+        DaemonStands x acts q daemon.old →
+        IsKnown made acts q queue.now →
+        IsDisk (I.content disk.old) drive.now.window drive.now.offered daemon.old.name b →
         Tells (λ said. T.heard told.old said told.new) (execute_turn x made b result acts q)
         (AfterDisk x acts q drive.now.window (I.content disk.old) (I.content disk.new) daemon.new) }
     ensures goes_on { (x : Setting) (acts : List Act) (q : ℕ) → DaemonStands x acts q daemon.old →

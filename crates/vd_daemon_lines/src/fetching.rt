@@ -63,7 +63,8 @@ fn fetched(
     requires some { 0 < place.size }
     requires small { place.size ≤ 32768 }
     ensures fetched { IsUnlessMemory (held_given result daemon.new)
-        (fetched_of (daemon_map domain.old pool.old) place (has_feature features 28) (has_feature features 29) daemon.old) }
+        (fetched_of (daemon_map domain.old pool.old) place (has_feature features 28)
+        (has_feature features 29) daemon.old) }
     ensures in_hand { IfOk result (TakesUp daemon.old daemon.new) }
     ensures stays { OnErr result (daemon.new ≡ daemon.old) }
     ensures event { OnOk result (daemon_map domain.new pool.new
@@ -126,7 +127,8 @@ pub fn fetch<T: Hears>(
     requires small { IfSome queue.now.info (λ i. i.num ≤ 32768) }
     ensures line { (x : Setting) (made : Creation) (acts : List Act) (q : ℕ) → Stands x acts domain.old pool.old →
         DaemonStands x acts q daemon.old → IsKnown made acts q queue.now →
-        MayTell (λ said. T.heard told.old said told.new) (fetch_turn x made acts q) (After x acts q domain.new pool.new daemon.new) result }
+        MayTell (λ said. T.heard told.old said told.new) (fetch_turn x made acts q)
+        (After x acts q domain.new pool.new daemon.new) result }
     ensures name { daemon.new.name ≡ daemon.old.name }
     ensures kept { Keeps domain.old.bounce.frames domain.new.bounce.frames pool.old pool.new }
     ensures counts { SameCounts domain.old domain.new }

@@ -42,7 +42,8 @@ fn finished(
         daemon_map domain.new pool.new ≡ daemon_map domain.old pool.old }
     ensures finished { (side : Side) (h : Hand) (end : Execution) → daemon.old.side ≡ Some side
         → daemon.old.request ≡ Some (record { hand = h; outcome = Some end })
-        → Finishes (daemon_map domain.old pool.old) side (has_feature features 29) h end result (Some (daemon_map domain.new pool.new)) }
+        → Finishes (daemon_map domain.old pool.old) side (has_feature features 29) h end result
+        (Some (daemon_map domain.new pool.new)) }
     ensures len { IfOk result (λ f. OnRequest daemon.old.request (λ h. f.len ≡ h.writable)) }
     ensures done { OnOk result (daemon.new ≡ finished_held daemon.old) }
     ensures stays { OnErr result (daemon.new ≡ daemon.old) }
@@ -84,7 +85,8 @@ pub fn finish<T: Hears>(
     requires reached { IsReached domain.old pool.old }
     ensures line { (x : Setting) (made : Creation) (acts : List Act) (q : ℕ) → Stands x acts domain.old pool.old →
         DaemonStands x acts q daemon.old → IsKnown made acts q queue.now →
-        Tells (λ said. T.heard told.old said told.new) (finish_turn x made acts q) (After x acts q domain.new pool.new daemon.new) }
+        Tells (λ said. T.heard told.old said told.new) (finish_turn x made acts q)
+        (After x acts q domain.new pool.new daemon.new) }
     ensures name { daemon.new.name ≡ daemon.old.name }
     ensures kept { Keeps domain.old.bounce.frames domain.new.bounce.frames pool.old pool.new }
     ensures counts { SameCounts domain.old domain.new }

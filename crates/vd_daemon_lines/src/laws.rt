@@ -11,7 +11,8 @@ ghost use Rattle.vd_daemon_lines.specs.Stands.{DaemonStands};
 /// Acts that are none of the daemon on its queue, and that don't end its position, leave it standing. After an act that
 /// ends it, and at first, a daemon stands that has no position and nothing in hand.
 pub fn kept_daemon()
-    ensures stays { (x : Setting) (q : ℕ) (acts done : List Act) (daemon : Held) → list_all (λ act. not (is_daemon_act q act)) acts ≡ true →
+    ensures stays { (x : Setting) (q : ℕ) (acts done : List Act) (daemon : Held) →
+        list_all (λ act. not (is_daemon_act q act)) acts ≡ true →
         DaemonStands x done q daemon → DaemonStands x (acts ++ done) q daemon }
     ensures ends { (x : Setting) (q : ℕ) (act : Act) (acts : List Act) (name : List ℕ) → ends_position q act ≡ true →
         DaemonStands x (act ∷ acts) q (idle name) }

@@ -51,7 +51,8 @@ impl Device {
     fn detach<T: Hears>(&mut self, told: &mut T)
         requires ready { T.is_ready told.old }
         requires room { IsWithin (2 ^ 62 - 1) self.old }
-        ensures line { (x : Setting) (made : Creation) (acts : List Act) (m : PoolMemory) → Stands x made acts self.old m
+        ensures line { (x : Setting) (made : Creation) (acts : List Act) (m : PoolMemory) →
+            Stands x made acts self.old m
             → Tells (λ said. T.heard told.old said told.new) (detach_turn acts) (After x made acts self.new m) }
         ensures rest { KeepsFrames self.old.memory self.new.memory }
         ensures path { (most : ℕ) → path.IsWithin most self.old.path →
@@ -70,8 +71,10 @@ impl Device {
     fn reset<T: Hears>(&mut self, now: u64, told: &mut T) -> Result<(), AllocError>
         requires ready { T.is_ready told.old }
         requires room { IsWithin (2 ^ 62 - 1) self.old }
-        ensures line { (x : Setting) (made : Creation) (acts : List Act) (m : PoolMemory) → Stands x made acts self.old m
-            → MayTell (λ said. T.heard told.old said told.new) (reset_turn now acts) (After x made acts self.new m) result }
+        ensures line { (x : Setting) (made : Creation) (acts : List Act) (m : PoolMemory) →
+            Stands x made acts self.old m
+            → MayTell (λ said. T.heard told.old said told.new) (reset_turn now acts)
+            (After x made acts self.new m) result }
         ensures rest { KeepsFrames self.old.memory self.new.memory }
         ensures path { (most : ℕ) → path.IsWithin most self.old.path →
             path.IsWithin (most + 1) self.new.path }
@@ -98,8 +101,10 @@ impl Device {
     ) -> Result<(), AllocError>
         requires ready { T.is_ready told.old }
         requires room { IsWithin (2 ^ 62 - 1) self.old }
-        ensures line { (x : Setting) (made : Creation) (acts : List Act) (m : PoolMemory) → Stands x made acts self.old m
-            → MayTell (λ said. T.heard told.old said told.new) (attached_turn made now acts step.now) (After x made acts self.new m) result }
+        ensures line { (x : Setting) (made : Creation) (acts : List Act) (m : PoolMemory) →
+            Stands x made acts self.old m
+            → MayTell (λ said. T.heard told.old said told.new) (attached_turn made now acts step.now)
+            (After x made acts self.new m) result }
         ensures rest { KeepsFrames self.old.memory self.new.memory }
         ensures path { (most : ℕ) → path.IsWithin most self.old.path →
             path.IsWithin (most + 1) self.new.path }
@@ -146,8 +151,10 @@ impl Device {
     ) -> Result<(), AllocError>
         requires ready { T.is_ready told.old }
         requires room { IsWithin (2 ^ 62 - 1) self.old }
-        ensures line { (x : Setting) (made : Creation) (acts : List Act) (m : PoolMemory) → Stands x made acts self.old m
-            → MayTell (λ said. T.heard told.old said told.new) (bus_turn made now acts step.now) (After x made acts self.new m) result }
+        ensures line { (x : Setting) (made : Creation) (acts : List Act) (m : PoolMemory) →
+            Stands x made acts self.old m
+            → MayTell (λ said. T.heard told.old said told.new) (bus_turn made now acts step.now)
+            (After x made acts self.new m) result }
         ensures rest { KeepsFrames self.old.memory self.new.memory }
         ensures path { (most : ℕ) → path.IsWithin most self.old.path →
             path.IsWithin (most + 1) self.new.path }

@@ -52,7 +52,8 @@ impl Device {
 
     /// Tells the time.
     pub fn tick(&mut self, now: u64)
-        ensures stands { (x : Setting) (made : Creation) (done : List Act) (m : PoolMemory) → Stands x made done self.old m
+        ensures stands { (x : Setting) (made : Creation) (done : List Act) (m : PoolMemory) →
+            Stands x made done self.old m
             → Stands x made (Message_act (Elapsed now) ∷ done) self.new m }
         ensures memory { self.new.memory ≡ self.old.memory }
         ensures within { (most : ℕ) → IsWithin most self.old → IsWithin most self.new }

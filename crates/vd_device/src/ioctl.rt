@@ -38,8 +38,10 @@ impl Device {
     /// Tells a region as a struct.
     fn tell_entry<T: Hears>(&self, start: u64, last: u64, told: &mut T)
         requires ready { T.is_ready told.old }
-        ensures line { (x : Setting) (made : Creation) (acts : List Act) (m : PoolMemory) → Stands x made acts self.now m
-            → Tells (λ said. T.heard told.old said told.new) (lift Node (found_or x acts start last (λ r. done_with (Text (entry_bytes r) ∷ []) [])))
+        ensures line { (x : Setting) (made : Creation) (acts : List Act) (m : PoolMemory) →
+            Stands x made acts self.now m
+            → Tells (λ said. T.heard told.old said told.new) (lift Node (found_or x acts start last
+            (λ r. done_with (Text (entry_bytes r) ∷ []) [])))
             (After x made acts self.now m) }
     {
         match self.memory.find_region(Range { start, last }) {
@@ -51,8 +53,10 @@ impl Device {
     /// Tells a region and what it can do as a struct.
     fn tell_info<T: Hears>(&self, start: u64, last: u64, told: &mut T)
         requires ready { T.is_ready told.old }
-        ensures line { (x : Setting) (made : Creation) (acts : List Act) (m : PoolMemory) → Stands x made acts self.now m
-            → Tells (λ said. T.heard told.old said told.new) (lift Node (found_or x acts start last (λ r. done_with (Text (info_bytes r (capability_of r)) ∷ []) [])))
+        ensures line { (x : Setting) (made : Creation) (acts : List Act) (m : PoolMemory) →
+            Stands x made acts self.now m
+            → Tells (λ said. T.heard told.old said told.new) (lift Node (found_or x acts start last
+            (λ r. done_with (Text (info_bytes r (capability_of r)) ∷ []) [])))
             (After x made acts self.now m) }
     {
         match self.memory.find_region(Range { start, last }) {
@@ -64,8 +68,11 @@ impl Device {
     /// Tells the features that the driver accepted, as a number of eight bytes.
     fn tell_features<T: Hears>(&self, told: &mut T)
         requires ready { T.is_ready told.old }
-        ensures line { (x : Setting) (made : Creation) (acts : List Act) (m : PoolMemory) → Stands x made acts self.now m
-            → Tells (λ said. T.heard told.old said told.new) (done_with (Text (little_bytes 8 (features_of (state_acts acts))) ∷ []) []) (After x made acts self.now m) }
+        ensures line { (x : Setting) (made : Creation) (acts : List Act) (m : PoolMemory) →
+            Stands x made acts self.now m
+            → Tells (λ said. T.heard told.old said told.new)
+            (done_with (Text (little_bytes 8 (features_of (state_acts acts))) ∷ []) [])
+            (After x made acts self.now m) }
     {
         told.short_text(&number_bytes(self.path.state.features()));
     }
@@ -81,7 +88,8 @@ impl Device {
         requires held { IsHeld self.old pool.old }
         requires room { IsWithin (2 ^ 62 - 1) self.old }
         ensures line { (x : Setting) (made : Creation) (acts : List Act) → Stands x made acts self.old pool.old
-            → MayTell (λ said. T.heard told.old said told.new) (ioctl_turn x made acts (Some (seen_as meant.now))) (After x made acts self.new pool.new) result }
+            → MayTell (λ said. T.heard told.old said told.new)
+            (ioctl_turn x made acts (Some (seen_as meant.now))) (After x made acts self.new pool.new) result }
         ensures rest { KeepsRest self.old.memory self.new.memory pool.old pool.new }
         ensures path { (most : ℕ) → path.IsWithin most self.old.path →
             path.IsWithin (most + 1) self.new.path }
@@ -119,7 +127,8 @@ impl Device {
         requires held { IsHeld self.old pool.old }
         requires room { IsWithin (2 ^ 62 - 1) self.old }
         ensures line { (x : Setting) (made : Creation) (acts : List Act) → Stands x made acts self.old pool.old
-            → MayTell (λ said. T.heard told.old said told.new) (ioctl_turn x made acts (ioctl_of number bytes.now)) (After x made acts self.new pool.new) result }
+            → MayTell (λ said. T.heard told.old said told.new)
+            (ioctl_turn x made acts (ioctl_of number bytes.now)) (After x made acts self.new pool.new) result }
         ensures rest { KeepsRest self.old.memory self.new.memory pool.old pool.new }
         ensures path { (most : ℕ) → path.IsWithin most self.old.path →
             path.IsWithin (most + 1) self.new.path }

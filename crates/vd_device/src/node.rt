@@ -40,7 +40,8 @@ impl Device {
         requires held { IsHeld self.old pool.old }
         requires room { IsWithin (2 ^ 62 - 1) self.old }
         ensures line { (x : Setting) (made : Creation) (acts : List Act) → Stands x made acts self.old pool.old
-            → Tells (λ said. T.heard told.old said told.new) (plain_turn made acts step.now) (After x made acts self.new pool.new) }
+            → Tells (λ said. T.heard told.old said told.new) (plain_turn made acts step.now)
+            (After x made acts self.new pool.new) }
         ensures rest { KeepsRest self.old.memory self.new.memory pool.old pool.new }
         ensures path { (most : ℕ) → path.IsWithin most self.old.path →
             path.IsWithin (most + 1) self.new.path }
@@ -74,7 +75,8 @@ impl Device {
         requires room { IsWithin (2 ^ 62 - 1) self.old }
         requires form { is_plain step.now ≡ true }
         ensures line { (x : Setting) (made : Creation) (acts : List Act) → Stands x made acts self.old pool.old
-            → Tells (λ said. T.heard told.old said told.new) (open_node_turn x made acts step.now) (After x made acts self.new pool.new) }
+            → Tells (λ said. T.heard told.old said told.new) (open_node_turn x made acts step.now)
+            (After x made acts self.new pool.new) }
         ensures rest { KeepsRest self.old.memory self.new.memory pool.old pool.new }
         ensures path { (most : ℕ) → path.IsWithin most self.old.path →
             path.IsWithin (most + 1) self.new.path }
@@ -93,7 +95,8 @@ impl Device {
         requires held { IsHeld self.old pool.old }
         requires room { IsWithin (2 ^ 62 - 1) self.old }
         ensures line { (x : Setting) (made : Creation) (acts : List Act) → Stands x made acts self.old pool.old
-            → MayTell (λ said. T.heard told.old said told.new) (open_node_turn x made acts step.now) (After x made acts self.new pool.new) result }
+            → MayTell (λ said. T.heard told.old said told.new) (open_node_turn x made acts step.now)
+            (After x made acts self.new pool.new) result }
         ensures rest { KeepsRest self.old.memory self.new.memory pool.old pool.new }
         ensures path { (most : ℕ) → path.IsWithin most self.old.path →
             path.IsWithin (most + 1) self.new.path }
@@ -134,7 +137,8 @@ impl Device {
         requires held { IsHeld self.old pool.old }
         requires room { IsWithin (2 ^ 62 - 1) self.old }
         ensures line { (x : Setting) (made : Creation) (acts : List Act) → Stands x made acts self.old pool.old
-            → MayTell (λ said. T.heard told.old said told.new) (node_turn x made acts step.now) (After x made acts self.new pool.new) result }
+            → MayTell (λ said. T.heard told.old said told.new) (node_turn x made acts step.now)
+            (After x made acts self.new pool.new) result }
         ensures rest { KeepsRest self.old.memory self.new.memory pool.old pool.new }
         ensures path { (most : ℕ) → path.IsWithin most self.old.path →
             path.IsWithin (most + 1) self.new.path }

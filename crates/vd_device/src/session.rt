@@ -25,7 +25,8 @@ impl Device {
         requires held { IsHeld self.old pool.old }
         requires room { self.old.path.closings < 2 ^ 62 }
         ensures stands { (x : Setting) (made : Creation) (done : List Act) → Stands x made done self.old pool.old
-            → Stands x made (Message_act Lost ∷ Node Closed ∷ registration_end (registration_of done) ++ done) self.new pool.new }
+            → Stands x made (Message_act Lost ∷ Node Closed ∷ registration_end (registration_of done)
+            ++ done) self.new pool.new }
         ensures rest { KeepsRest self.old.memory self.new.memory pool.old pool.new }
         ensures path { (most : ℕ) → path.IsWithin most self.old.path →
             path.IsWithin (most + 1) self.new.path }
@@ -37,7 +38,8 @@ impl Device {
     /// Resets the state, and with it the bounce region.
     pub(crate) fn clear(&mut self)
         requires { CountsWithin (2 ^ 62 - 1) self.old.path.state }
-        ensures stands { (x : Setting) (made : Creation) (done : List Act) (m : PoolMemory) → Stands x made done self.old m
+        ensures stands { (x : Setting) (made : Creation) (done : List Act) (m : PoolMemory) →
+            Stands x made done self.old m
             → Stands x made (act.State Cleared ∷ done) self.new m }
         ensures rest { KeepsFrames self.old.memory self.new.memory }
         ensures path { (most : ℕ) → path.IsWithin most self.old.path →

@@ -35,7 +35,9 @@ impl Device {
         requires ready { T.is_ready told.old }
         requires held { IsHeld self.old pool.old }
         ensures line { (x : Setting) (made : Creation) (acts : List Act) → Stands x made acts self.old pool.old
-            → MayTell (λ said. T.heard told.old said told.new) (needs_session acts (lift Node (area_turn x acts step.now))) (After x made acts self.new pool.new) result }
+            → MayTell (λ said. T.heard told.old said told.new)
+            (needs_session acts (lift Node (area_turn x acts step.now)))
+            (After x made acts self.new pool.new) result }
         ensures rest { KeepsRest self.old.memory self.new.memory pool.old pool.new }
         ensures path { self.new.path ≡ self.old.path }
         ensures frugal { is_frugal_area_line step.now ≡ true → IsOk result }
@@ -59,7 +61,9 @@ impl Device {
         requires reached { IsReached self.old pool.old }
         requires room { IsWithin (2 ^ 62 - 1) self.old }
         ensures line { (x : Setting) (made : Creation) (acts : List Act) → Stands x made acts self.old pool.old
-            → MayTell (λ said. T.heard told.old said told.new) (needs_bus acts (lift Driver (driver_turn x acts step.now))) (After x made acts self.new pool.new) result }
+            → MayTell (λ said. T.heard told.old said told.new)
+            (needs_bus acts (lift Driver (driver_turn x acts step.now)))
+            (After x made acts self.new pool.new) result }
         ensures rest { KeepsRest self.old.memory self.new.memory pool.old pool.new }
         ensures path { self.new.path ≡ self.old.path }
         ensures frugal { is_frugal_driver_line step.now ≡ true → IsOk result }
@@ -84,7 +88,8 @@ impl Device {
         requires reached { IsReached self.old pool.old }
         requires room { IsWithin (2 ^ 62 - 1) self.old }
         ensures line { (x : Setting) (made : Creation) (acts : List Act) → Stands x made acts self.old pool.old
-            → MayTell (λ said. T.heard told.old said told.new) (line_turn x made now acts step.now) (After x made acts self.new pool.new) result }
+            → MayTell (λ said. T.heard told.old said told.new) (line_turn x made now acts step.now)
+            (After x made acts self.new pool.new) result }
         ensures rest { KeepsOthers self.old self.new pool.old pool.new }
         ensures within { (most : ℕ) → IsWithin most self.old → IsWithin (most + 1) self.new }
         ensures frugal { takes_no_memory step.now ≡ true → IsOk result }

@@ -49,7 +49,8 @@ impl Device {
     /// What the end of a failed message does.
     fn fail(&mut self, body: Body)
         requires { CountsWithin (2 ^ 62 - 1) self.old.path.state }
-        ensures stands { (x : Setting) (made : Creation) (acts : List Act) (m : PoolMemory) → Stands x made acts self.old m
+        ensures stands { (x : Setting) (made : Creation) (acts : List Act) (m : PoolMemory) →
+            Stands x made acts self.old m
             → Stands x made (failed_acts body ++ acts) self.new m }
         ensures rest { KeepsFrames self.old.memory self.new.memory }
         ensures path { (most : ℕ) → path.IsWithin most self.old.path →
@@ -64,7 +65,8 @@ impl Device {
     /// What the end of a message does that is done.
     fn accomplish(&mut self, body: Body)
         requires { CountsWithin (2 ^ 62 - 1) self.old.path.state }
-        ensures stands { (x : Setting) (made : Creation) (acts : List Act) (m : PoolMemory) → Stands x made acts self.old m
+        ensures stands { (x : Setting) (made : Creation) (acts : List Act) (m : PoolMemory) →
+            Stands x made acts self.old m
             → Stands x made (done_acts body ++ acts) self.new m }
         ensures rest { KeepsFrames self.old.memory self.new.memory }
         ensures path { (most : ℕ) → path.IsWithin most self.old.path →
@@ -84,8 +86,10 @@ impl Device {
     pub(crate) fn take<T: Hears>(&mut self, id: u32, told: &mut T)
         requires ready { T.is_ready told.old }
         requires room { IsWithin (2 ^ 62 - 1) self.old }
-        ensures line { (x : Setting) (made : Creation) (acts : List Act) (m : PoolMemory) → Stands x made acts self.old m
-            → Tells (λ said. T.heard told.old said told.new) (take_turn id (message_told (message_acts acts) id)) (After x made acts self.new m) }
+        ensures line { (x : Setting) (made : Creation) (acts : List Act) (m : PoolMemory) →
+            Stands x made acts self.old m
+            → Tells (λ said. T.heard told.old said told.new)
+            (take_turn id (message_told (message_acts acts) id)) (After x made acts self.new m) }
         ensures rest { KeepsFrames self.old.memory self.new.memory }
         ensures path { (most : ℕ) → path.IsWithin most self.old.path →
             path.IsWithin (most + 1) self.new.path }

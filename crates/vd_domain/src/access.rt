@@ -105,9 +105,11 @@ pub fn write(
     ensures kept { Keeps bounce.old.frames bounce.new.frames pool.old pool.new }
     ensures shared_kept { Keeps shared.old.frames shared.new.frames store.old store.new }
     ensures bytes { (x : Place) → value bounce.new pool.new x
-        ≡ over (home_place bounce.old at) (take (min (length bytes.now) (bounce_len bounce.old - at)) bytes.now) x (value bounce.old pool.old x) }
+        ≡ over (home_place bounce.old at)
+        (take (min (length bytes.now) (bounce_len bounce.old - at)) bytes.now) x (value bounce.old pool.old x) }
     ensures shared_bytes { (b : ℕ) → value shared.new store.new (Iova b)
-        ≡ (if is_within at (length bytes.now) (bounce_len bounce.old + b) then slice_index bytes.now (bounce_len bounce.old + b - at)
+        ≡ (if is_within at (length bytes.now) (bounce_len bounce.old + b) then slice_index bytes.now
+        (bounce_len bounce.old + b - at)
         else value shared.old store.old (Iova b)) }
     ensures present { (p : ℕ) → is_page_present bounce.new p ≡ is_page_present bounce.old p }
     ensures shared_present { (p : ℕ) → is_page_present shared.new p ≡ is_page_present shared.old p }

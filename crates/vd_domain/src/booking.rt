@@ -38,7 +38,8 @@ pub fn book(
     requires end { low.old.«end» ≤ 65536 }
     ensures place { MatchResult result
         (λ b. Some b.slot ≡ place_of (taken_of low.old) (pages_of want.len) low.old.first low.old.«end»)
-        (λ e. e ≡ MapError.NoSpace → None ≡ place_of (taken_of low.old) (pages_of want.len) low.old.first low.old.«end») }
+        (λ e. e ≡ MapError.NoSpace →
+        None ≡ place_of (taken_of low.old) (pages_of want.len) low.old.first low.old.«end») }
     ensures full { result ≢ Err MapError.Empty }
     ensures taken { IfOk result
         (λ b. (taken_at low.old b.slot ≡ 0)
@@ -53,7 +54,11 @@ pub fn book(
         (λ b. (low.old.first ≤ b.slot) × (b.slot + pages_of want.len ≤ low.old.«end»)) }
     ensures ends { (low.new.first ≡ low.old.first) × (low.new.«end» ≡ low.old.«end») }
     ensures numbered { IfOk result (λ b. (b.number ≡ mappings.old.made)
-        × (mappings.new ≡ record { entries = mappings.old.entries ++ (b.number, record { slot = b.slot; want = want }) ∷ []; made = b.number + 1 })) }
+        × (mappings.new ≡ record {
+          entries = mappings.old.entries ++
+              (b.number, record { slot = b.slot; want = want }) ∷ [];
+          made = b.number + 1;
+        })) }
     ensures pages { IfOk result
         (λ b. (page : ℕ) → is_within b.pages.first b.pages.count page
         ≡ meets_slots per_page page b.slot (pages_of want.len)) }
@@ -92,7 +97,8 @@ pub fn enroll<T: Copy + Drop>(
 ) -> Option<u64>
     requires made { values.old.made < 2 ^ 62 }
     ensures some { IfSome result (λ n. (n ≡ values.old.made)
-        × (values.new ≡ record { entries = values.old.entries ++ (n, value) ∷ []; made = n + 1 }) × (frames ≤ pool.new.spare)) }
+        × (values.new ≡ record { entries = values.old.entries ++ (n, value) ∷ []; made = n + 1 })
+        × (frames ≤ pool.new.spare)) }
     ensures none { IfNone result (values.new ≡ values.old) }
     ensures grows { Grows pool.old pool.new }
 {

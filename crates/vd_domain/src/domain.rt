@@ -141,7 +141,8 @@ impl Domain {
         requires holds { Holds self.now.bounce.frames pool.now }
         requires size { pool.now.per_page ≡ self.now.bounce.per_page }
         ensures ok { (x : Setting) (acts : List Act) → Stands x acts self.now pool.now → MatchResult result
-            (λ _. (first_bus x acts at (length out.old) ≡ None) × (out.new ≡ bus_bytes x.per_page acts at (length out.old)))
+            (λ _. (first_bus x acts at (length out.old) ≡ None)
+            × (out.new ≡ bus_bytes x.per_page acts at (length out.old)))
             (λ bus. first_bus x acts at (length out.old) ≡ Some bus.at) }
         ensures left { OnErr result (out.new ≡ out.old) }
     {
@@ -158,7 +159,8 @@ impl Domain {
         requires size { pool.old.per_page ≡ self.old.bounce.per_page }
         ensures kept { Keeps self.old.bounce.frames self.new.bounce.frames pool.old pool.new }
         ensures ok { (x : Setting) (acts : List Act) → Stands x acts self.old pool.old → MatchResult result
-            (λ _. (first_bus x acts at (length bytes.now) ≡ None) × Stands x (Node (Daemon_put at bytes.now) ∷ acts) self.new pool.new)
+            (λ _. (first_bus x acts at (length bytes.now) ≡ None)
+            × Stands x (Node (Daemon_put at bytes.now) ∷ acts) self.new pool.new)
             (λ bus. first_bus x acts at (length bytes.now) ≡ Some bus.at) }
         ensures err { OnErr result ((self.new ≡ self.old) × (pool.new ≡ pool.old)) }
         ensures counts { SameCounts self.old self.new }

@@ -68,7 +68,8 @@ pub fn show(map: &mut BounceMap, pool: &mut Pool, pages: Pages, dir: Dir, iova: 
         is_within pages.first pages.count (a / page_size map.old) ≡ true }
     ensures kept { Keeps map.old.frames map.new.frames pool.old pool.new }
     ensures bytes { (x : Place) → value map.new pool.new x
-        ≡ (if is_to_device dir then over (home_place map.old iova) bytes.now x (value map.old pool.old x) else value map.old pool.old x) }
+        ≡ (if is_to_device dir then over (home_place map.old iova) bytes.now x
+        (value map.old pool.old x) else value map.old pool.old x) }
     ensures frames { (p : ℕ) → p < length map.old.frames → is_some (frame_of map.new.frames p)
         ≡ (is_within pages.first pages.count p || is_some (frame_of map.old.frames p)) }
     ensures spare { pool.old.spare ≤ pool.new.spare + pages.count }

@@ -22,7 +22,8 @@ pub struct DriverPort<'a> {
     /// How many mappings more it makes: so their numbers have an end.
     pub maps_left: u64,
     pub ghost out: { (page f : ℕ) → frame_of memory.now.domain.bounce.frames page ≡ Some f → is_out pool.now f ≡ true },
-    pub ghost apart: { (p q f : ℕ) → frame_of memory.now.domain.bounce.frames p ≡ Some f → frame_of memory.now.domain.bounce.frames q ≡ Some f → p ≡ q },
+    pub ghost apart: { (p q f : ℕ) → frame_of memory.now.domain.bounce.frames p ≡ Some f →
+        frame_of memory.now.domain.bounce.frames q ≡ Some f → p ≡ q },
     pub ghost size: { pool.now.per_page ≡ memory.now.domain.bounce.per_page },
     pub ghost room: { memory.now.domain.maps + maps_left < 2 ^ 62 },
     pub ghost reached: { ∥ IsReached memory.now pool.now ∥₁ },
@@ -41,7 +42,8 @@ impl<'a> Mem for DriverPort<'a> {
 
     ghost span = { λ _. None };
 
-    ghost keeps = { λ s t. (t.memory.ghost_name ≡ s.memory.ghost_name) × (t.pool.ghost_name ≡ s.pool.ghost_name) × (t.maps_left ≡ s.maps_left)
+    ghost keeps = { λ s t. (t.memory.ghost_name ≡ s.memory.ghost_name)
+        × (t.pool.ghost_name ≡ s.pool.ghost_name) × (t.maps_left ≡ s.maps_left)
         × IsAfterPuts s.memory.now t.memory.now s.pool.now t.pool.now };
 
     ghost told_ends = { λ s. tells _ _ (ring_finite s.memory.now.domain) };
@@ -75,7 +77,8 @@ impl<'a> Dma for DriverPort<'a> {
     ghost stands = { λ s x acts. Stands x acts s.memory.now s.pool.now };
 
     ghost keeps_rest = { λ s t. (t.memory.ghost_name ≡ s.memory.ghost_name) × (t.pool.ghost_name ≡ s.pool.ghost_name)
-        × KeepsMemory s.memory.now t.memory.now s.pool.now t.pool.now × (t.memory.now.domain.maps + t.maps_left ≤ s.memory.now.domain.maps + s.maps_left) };
+        × KeepsMemory s.memory.now t.memory.now s.pool.now t.pool.now
+        × (t.memory.now.domain.maps + t.maps_left ≤ s.memory.now.domain.maps + s.maps_left) };
 
     /// A range that isn't in its buffer is as much as want of memory.
     fn copy(&self, want: &Want, into: &mut Bytes) -> Result<(), AllocError> {
@@ -123,9 +126,11 @@ impl<'a> Dma for DriverPort<'a> {
         steps::unmap(self.memory, self.pool, number);
     }
 
-    ghost rest_refl = { λ s. (refl, refl, memory_same s.memory.now s.pool.now (record { out = s.out; apart = s.apart }), same_sum _) };
+    ghost rest_refl = { λ s.
+        (refl, refl, memory_same s.memory.now s.pool.now (record { out = s.out; apart = s.apart }), same_sum _) };
 
     ghost rest_trans = { λ a b c h g. (g.0 ∙ h.0, g.1 ∙ h.1, memory_more h.2 g.2, sum_more g.3 h.3) };
 
-    ghost keeps_more = { λ a b h. (h.0, h.1, after_memory (record { out = a.out; apart = a.apart }) h.3, after_sum h.3 h.2) };
+    ghost keeps_more = { λ a b h.
+        (h.0, h.1, after_memory (record { out = a.out; apart = a.apart }) h.3, after_sum h.3 h.2) };
 }

@@ -29,7 +29,8 @@ use vd_pool::Pool;
 
 /// Writes bytes into a buffer, where they lie in it.
 pub fn fill(memory: &mut Memory, buffer: u64, offset: u64, bytes: &[u8])
-    ensures filled { (x : Setting) (acts : List Act) (m : pool.PoolMemory) → Stands x acts memory.old m → has_range acts buffer offset (length bytes.now) ≡ true →
+    ensures filled { (x : Setting) (acts : List Act) (m : pool.PoolMemory) → Stands x acts memory.old m →
+        has_range acts buffer offset (length bytes.now) ≡ true →
         Stands x (Driver (Poked buffer offset bytes.now) ∷ acts) memory.new m }
     ensures reached { (m : pool.PoolMemory) → ∥ IsReached memory.old m ∥₁ → ∥ IsReached memory.new m ∥₁ }
     ensures rest { memory.new ≡ record memory.old { buffers = memory.new.buffers } }
@@ -53,7 +54,8 @@ pub fn map_all(
     requires theirs { (g : ℕ) (acts : List Act) → kept.Stands g acts memory.old.buffers →
         AreOf g acts wants.now bytes.now }
     ensures mapped { (x : Setting) (acts : List Act) (ms : List Streaming) → Stands x acts memory.old pool.old →
-        placed_mappings x (taken_slots acts) (maps acts) wants.now ≡ Some ms → OnOk result (Stands x (map_acts ms ++ acts) memory.new pool.new) }
+        placed_mappings x (taken_slots acts) (maps acts) wants.now ≡ Some ms →
+        OnOk result (Stands x (map_acts ms ++ acts) memory.new pool.new) }
     ensures placed { (x : Setting) (acts : List Act) → Stands x acts memory.old pool.old → IfOk result (λ number.
         (number ≡ maps acts) × (is_some (placed_mappings x (taken_slots acts) (maps acts) wants.now) ≡ true)) }
     ensures number { IfOk result (λ number. number ≡ memory.old.domain.maps) }
@@ -77,7 +79,8 @@ pub fn map_all(
 pub fn refresh(memory: &mut Memory, pool: &mut Pool, number: u64)
     requires held { IsHeld memory.old pool.old }
     requires reached { ∥ IsReached memory.old pool.old ∥₁ }
-    ensures refreshed { (x : Setting) (acts : List Act) (m : Streaming) → Stands x acts memory.old pool.old → live_mapping acts number ≡ Some m →
+    ensures refreshed { (x : Setting) (acts : List Act) (m : Streaming) → Stands x acts memory.old pool.old →
+        live_mapping acts number ≡ Some m →
         is_to_device m.want.dir ≡ true → Stands x (Driver (Synced_device m) ∷ acts) memory.new pool.new }
     ensures rest { KeepsMemory memory.old memory.new pool.old pool.new }
     ensures maps { memory.new.domain.maps ≡ memory.old.domain.maps }
@@ -106,10 +109,13 @@ fn end_mapping(domain: &mut Domain, pool: &mut Pool, number: u64, want: &Want, b
     requires live { IfSome (mapping_of domain.old number) (λ m. m.want ≡ want.now) }
     requires range { want.now.offset + want.now.len ≤ length bytes.old }
     ensures kept { Keeps domain.old.bounce.frames domain.new.bounce.frames pool.old pool.new }
-    ensures ok { (x : Setting) (acts : List Act) (m : Streaming) → mapping_of domain.old number ≡ Some m → standing.Stands x acts domain.old pool.old
+    ensures ok { (x : Setting) (acts : List Act) (m : Streaming) → mapping_of domain.old number ≡ Some m →
+        standing.Stands x acts domain.old pool.old
         → standing.Stands x (Driver (Unmapped m) ∷ acts) domain.new pool.new }
-    ensures given { (x : Setting) (acts : List Act) (m : Streaming) → mapping_of domain.old number ≡ Some m → standing.Stands x acts domain.old pool.old
-        → (j : ℕ) → j < length bytes.old → slice_index bytes.new j ≡ given x.per_page acts m j (slice_index bytes.old j) }
+    ensures given { (x : Setting) (acts : List Act) (m : Streaming) → mapping_of domain.old number ≡ Some m →
+        standing.Stands x acts domain.old pool.old
+        → (j : ℕ) → j < length bytes.old →
+        slice_index bytes.new j ≡ given x.per_page acts m j (slice_index bytes.old j) }
     ensures len { length bytes.new ≡ length bytes.old }
     ensures counts { (domain.new.maps ≡ domain.old.maps) × (domain.new.made ≡ domain.old.made) }
     ensures page { domain.new.bounce.per_page ≡ domain.old.bounce.per_page }
@@ -126,7 +132,8 @@ fn end_held(memory: &mut Memory, pool: &mut Pool, number: u64, want: &Want)
     requires there { is_some (place_of memory.old.buffers want.now.buffer) ≡ true }
     requires range { (bytes : List ℕ) → place_of memory.old.buffers want.now.buffer ≡ Some bytes →
         want.now.offset + want.now.len ≤ length bytes }
-    ensures ended { (x : Setting) (acts : List Act) (m : Streaming) → mapping_of memory.old.domain number ≡ Some m → Stands x acts memory.old pool.old
+    ensures ended { (x : Setting) (acts : List Act) (m : Streaming) →
+        mapping_of memory.old.domain number ≡ Some m → Stands x acts memory.old pool.old
         → Stands x (Driver (Unmapped m) ∷ acts) memory.new pool.new }
     ensures rest { KeepsMemory memory.old memory.new pool.old pool.new }
     ensures maps { memory.new.domain.maps ≡ memory.old.domain.maps }

@@ -35,8 +35,10 @@ pub(crate) fn place_of(devices: &[Named], name: &[u8]) -> Option<usize>
 /// Whether a device of this name can be made: none has it, and there are less than eight.
 pub(crate) fn check_new(devices: &[Named], name: &[u8]) -> Result<(), Errno>
     ensures none { OnOk result (NoneIs name.now devices.now) }
-    ensures refusal { (x : Setting) (done : List Deed) (m : PoolMemory) (outcome : Outcome) → AllStand x done devices.now m
-        → MatchResult result (λ _. new_or done name.now outcome ≡ outcome) (λ errno. new_or done name.now outcome ≡ refusal_outcome errno) }
+    ensures refusal { (x : Setting) (done : List Deed) (m : PoolMemory) (outcome : Outcome) →
+        AllStand x done devices.now m
+        → MatchResult result (λ _. new_or done name.now outcome ≡ outcome)
+        (λ errno. new_or done name.now outcome ≡ refusal_outcome errno) }
 {
     if place_of(devices, name).is_some() {
         return Err(Errno::Exist);

@@ -125,8 +125,10 @@ impl Engine {
         ensures ok { (x : Setting) (h : History) → StandsFor x h self.old →
             (is_execution step.now ≡ true → IsImage x (deeds_of x h) (I.size disk.old) (I.content disk.old)) →
             IfOk result (λ failed. Goes x (λ said. T.heard told.old said told.new) h step.now failed self.new) }
-        ensures image { (x : Setting) (h : History) → StandsFor x h self.old → IsImage x (deeds_of x h) (I.size disk.old) (I.content disk.old) →
-            IfOk result (λ failed. IsImage x (deeds_of x (record { step = step.now; failed = failed } ∷ h)) (I.size disk.new) (I.content disk.new)) }
+        ensures image { (x : Setting) (h : History) → StandsFor x h self.old →
+            IsImage x (deeds_of x h) (I.size disk.old) (I.content disk.old) →
+            IfOk result (λ failed. IsImage x (deeds_of x (record { step = step.now; failed = failed } ∷ h))
+            (I.size disk.new) (I.content disk.new)) }
         ensures err { (x : Setting) (h : History) → StandsFor x h self.old →
             OnErr result (StandsFor x h self.new) }
         ensures reached { IsReached self.new }
@@ -143,7 +145,8 @@ impl Engine {
         ensures cause { IfOk result (λ failed. failed ≡ true → Rose (I.faults disk.old) (I.faults disk.new)) }
 
         // A flush that is told as done was made, as far as the count of flushes can tell.
-        ensures flushed { (x : Setting) (h : History) → StandsFor x h self.old → IsImage x (deeds_of x h) (I.size disk.old) (I.content disk.old) →
+        ensures flushed { (x : Setting) (h : History) → StandsFor x h self.old →
+            IsImage x (deeds_of x h) (I.size disk.old) (I.content disk.old) →
             Counts result (λ failed. is_flush_step x (deeds_of x h) step.now (reply x h step.now failed))
             (I.flushes disk.old) (I.flushes disk.new) }
         ensures flushes { I.flushes disk.old ≤ I.flushes disk.new }
@@ -169,8 +172,10 @@ impl Engine {
         ensures ok { (x : Setting) (h : History) → StandsFor x h self.old →
             (is_execution step.now ≡ true → IsImage x (deeds_of x h) (I.size disk.old) (I.content disk.old)) →
             IfOk result (λ s. Goes x (λ said. s.answer ≡ said) h step.now s.disk_failed self.new) }
-        ensures image { (x : Setting) (h : History) → StandsFor x h self.old → IsImage x (deeds_of x h) (I.size disk.old) (I.content disk.old) →
-            IfOk result (λ s. IsImage x (deeds_of x (record { step = step.now; failed = s.disk_failed } ∷ h)) (I.size disk.new) (I.content disk.new)) }
+        ensures image { (x : Setting) (h : History) → StandsFor x h self.old →
+            IsImage x (deeds_of x h) (I.size disk.old) (I.content disk.old) →
+            IfOk result (λ s. IsImage x (deeds_of x (record { step = step.now; failed = s.disk_failed } ∷ h))
+            (I.size disk.new) (I.content disk.new)) }
         ensures err { (x : Setting) (h : History) → StandsFor x h self.old →
             OnErr result (StandsFor x h self.new) }
         ensures reached { IsReached self.new }

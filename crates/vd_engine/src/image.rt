@@ -22,8 +22,10 @@ impl Engine {
     fn check_window(&self, name: &[u8], first: u64, count: u64) -> Result<(), Errno>
         ensures none { OnOk result (find (has_window name.now) self.entry.now.windows.items ≡ None) }
         ensures inside { OnOk result (first + count ≤ self.entry.now.sectors) }
-        ensures refusal { (x : Setting) (done : List Deed) → StandsAt x done self.entry.now.asked self.entry.now → MatchResult result
-            (λ _. image_outcome x done name.now first count ≡ done_outcome [] (Has name.now (record { first = first; count = count }) ∷ []))
+        ensures refusal { (x : Setting) (done : List Deed) →
+            StandsAt x done self.entry.now.asked self.entry.now → MatchResult result
+            (λ _. image_outcome x done name.now first count ≡ done_outcome []
+            (Has name.now (record { first = first; count = count }) ∷ []))
             (λ errno. image_outcome x done name.now first count ≡ refusal_outcome errno) }
     {
         if place_of(&self.devices, name).is_none() {

@@ -65,7 +65,8 @@ impl Engine {
         requires reached { IsReached self.old }
         requires disk { I.size disk.old ≡ self.old.sectors }
         ensures line { Serves (λ said. T.heard told.old said told.new)
-            (λ x done failed. device_outcome name.now (device_queue_turn x name.now (device_view x name.now done) failed step.now)) (is_execute step.now)
+            (λ x done failed. device_outcome name.now
+            (device_queue_turn x name.now (device_view x name.now done) failed step.now)) (is_execute step.now)
             self.old self.new (I.size disk.old) (I.content disk.old) (I.content disk.new) result }
         ensures only_execute { is_execute step.now ≡ false →
             (disk.new ≡ disk.old) × IfOk result (λ failed. failed ≡ false) }

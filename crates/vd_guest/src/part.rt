@@ -154,7 +154,8 @@ pub fn load(
 fn overwrite(memory: &mut [u8], offset: usize, bytes: &[u8])
     requires { offset + length bytes.now ≤ length memory.old }
     ensures { (i : ℕ) → slice_index memory.new i
-        ≡ (if is_within offset (length bytes.now) i then slice_index bytes.now (i - offset) else slice_index memory.old i) }
+        ≡ (if is_within offset (length bytes.now) i then slice_index bytes.now
+        (i - offset) else slice_index memory.old i) }
 {
     memory[offset..offset + bytes.len()].copy_from_slice(bytes);
 }

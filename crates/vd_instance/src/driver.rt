@@ -52,7 +52,8 @@ impl Instance {
         requires reached { IsReached self.old pool.old }
         requires room { IsWithin (2 ^ 59) self.old }
         ensures line { (x : Setting) (made : Creation) (acts : List Act) → Stands x made acts self.old pool.old
-            → Tells (λ said. T.heard told.old said told.new) (needs_bus acts (ring_line_turn x made acts queue line.entry)) (After x made acts self.new pool.new) }
+            → Tells (λ said. T.heard told.old said told.new)
+            (needs_bus acts (ring_line_turn x made acts queue line.entry)) (After x made acts self.new pool.new) }
         ensures rest { KeepsDriver self.old self.new pool.old pool.new }
         ensures named { (name : List ℕ) → IsNamed name self.old → IsNamed name self.new }
     {
@@ -76,8 +77,10 @@ impl Instance {
     ) -> Result<(), AllocError>
         requires ready { T.is_ready told.old }
         requires room { IsWithin (2 ^ 59) self.old }
-        ensures line { (x : Setting) (made : Creation) (acts : List Act) (m : PoolMemory) → Stands x made acts self.old m
-            → MayTell (λ said. T.heard told.old said told.new) (needs_bus acts (ring_turn x made acts queue size)) (After x made acts self.new m) result }
+        ensures line { (x : Setting) (made : Creation) (acts : List Act) (m : PoolMemory) →
+            Stands x made acts self.old m
+            → MayTell (λ said. T.heard told.old said told.new)
+            (needs_bus acts (ring_turn x made acts queue size)) (After x made acts self.new m) result }
         ensures rest { (m : PoolMemory) → IsHeld self.old m → KeepsDriver self.old self.new m m }
         ensures named { (name : List ℕ) → IsNamed name self.old → IsNamed name self.new }
     {
@@ -114,7 +117,8 @@ impl Instance {
         requires reached { IsReached self.old pool.old }
         requires room { IsWithin (2 ^ 59) self.old }
         ensures line { (x : Setting) (made : Creation) (acts : List Act) → Stands x made acts self.old pool.old
-            → MayTell (λ said. T.heard told.old said told.new) (needs_bus acts (add_turn made acts queue parts.now)) (After x made acts self.new pool.new) result }
+            → MayTell (λ said. T.heard told.old said told.new)
+            (needs_bus acts (add_turn made acts queue parts.now)) (After x made acts self.new pool.new) result }
         ensures rest { KeepsDriver self.old self.new pool.old pool.new }
         ensures named { (name : List ℕ) → IsNamed name self.old → IsNamed name self.new }
     {
@@ -152,7 +156,8 @@ impl Instance {
         requires reached { IsReached self.old pool.old }
         requires room { IsWithin (2 ^ 59) self.old }
         ensures line { (x : Setting) (made : Creation) (acts : List Act) → Stands x made acts self.old pool.old
-            → MayTell (λ said. T.heard told.old said told.new) (needs_bus acts (submit_turn x made acts queue form.now)) (After x made acts self.new pool.new) result }
+            → MayTell (λ said. T.heard told.old said told.new)
+            (needs_bus acts (submit_turn x made acts queue form.now)) (After x made acts self.new pool.new) result }
         ensures rest { KeepsDriver self.old self.new pool.old pool.new }
         ensures named { (name : List ℕ) → IsNamed name self.old → IsNamed name self.new }
     {

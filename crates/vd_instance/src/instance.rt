@@ -33,7 +33,8 @@ const LARGEST: u16 = 256;
 
 /// Opens a session on a new device, sets up its first queue, and puts it on the bus.
 fn make_ready(device: &mut Device)
-    ensures stands { (x : Setting) (made : Creation) (m : PoolMemory) → 0 < made.queues → kept.Stands x made [] device.old m
+    ensures stands { (x : Setting) (made : Creation) (m : PoolMemory) → 0 < made.queues →
+        kept.Stands x made [] device.old m
         → kept.Stands x made (Bus Attached ∷ act.State (Max_set 0 256) ∷ Node Opened ∷ []) device.new m }
     ensures memory { device.new.memory ≡ device.old.memory }
     ensures within { kept.IsWithin 0 device.old → kept.IsWithin 1 device.new }
@@ -116,7 +117,8 @@ impl Instance {
 
     /// Tells the time.
     pub fn tick(&mut self, now: u64)
-        ensures stands { (x : Setting) (made : Creation) (done : List Act) (m : PoolMemory) → Stands x made done self.old m
+        ensures stands { (x : Setting) (made : Creation) (done : List Act) (m : PoolMemory) →
+            Stands x made done self.old m
             → Stands x made (Message_act (Elapsed now) ∷ done) self.new m }
         ensures memory { self.new.device.memory ≡ self.old.device.memory }
         ensures within { (most : ℕ) → IsWithin most self.old → IsWithin most self.new }

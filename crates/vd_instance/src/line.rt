@@ -44,9 +44,11 @@ impl RingLine<'_> {
         requires out { IsOut memory.old pool.old }
         requires room { memory.old.domain.maps < 2 ^ 62 }
         requires some { HasParts self }
-        ensures line { (x : Setting) (made : Creation) (acts : List Act) (q : ℕ) → Stands x acts memory.old pool.old → RequestsStand acts q kept.old → QueueOwned acts q
+        ensures line { (x : Setting) (made : Creation) (acts : List Act) (q : ℕ) →
+            Stands x acts memory.old pool.old → RequestsStand acts q kept.old → QueueOwned acts q
             → IsKnown made acts q queue.now
-            → Tells (λ said. T.heard told.old said told.new) (ring_line_turn x made acts q self.entry) (After x acts q memory.new pool.new kept.new) }
+            → Tells (λ said. T.heard told.old said told.new) (ring_line_turn x made acts q self.entry)
+            (After x acts q memory.new pool.new kept.new) }
         ensures rest { KeepsMemory memory.old memory.new pool.old pool.new }
         ensures maps { memory.new.domain.maps ≤ memory.old.domain.maps }
     {

@@ -74,7 +74,8 @@ impl Instance {
         requires reached { IsReached self.old pool.old }
         requires room { IsWithin (2 ^ 59) self.old }
         ensures line { (x : Setting) (made : Creation) (acts : List Act) → Stands x made acts self.old pool.old
-            → MayTell (λ said. T.heard told.old said told.new) (needs_session acts (daemon_line_turn x made acts queue line))
+            → MayTell (λ said. T.heard told.old said told.new)
+            (needs_session acts (daemon_line_turn x made acts queue line))
             (After x made acts self.new pool.new) result }
         ensures rest { KeepsRest self.old.device.memory self.new.device.memory pool.old pool.new }
         ensures path { self.new.device.path ≡ self.old.device.path }
@@ -117,25 +118,32 @@ impl Instance {
         requires ready { T.is_ready told.old }
         requires room { IsWithin (2 ^ 59) self.old }
         requires window { window.first + window.count ≤ I.size disk.old }
-        ensures line { (x : Setting) (made : Creation) (name : List ℕ) (seen : Seen) (m : PoolMemory) → Stands x made seen.acts self.old m
+        ensures line { (x : Setting) (made : Creation) (name : List ℕ) (seen : Seen) (m : PoolMemory) →
+            Stands x made seen.acts self.old m
             → IsNamed name self.old → IsWindow (I.content disk.old) window seen
             → Tells (λ said. T.heard told.old said told.new)
             (needs_session seen.acts (execute_turn x made (disk_of made name seen) result seen.acts queue))
             (After x made seen.acts self.new m) }
-        ensures content { (x : Setting) (made : Creation) (name : List ℕ) (seen : Seen) (m : PoolMemory) → Stands x made seen.acts self.old m
+        ensures content { (x : Setting) (made : Creation) (name : List ℕ) (seen : Seen) (m : PoolMemory) →
+            Stands x made seen.acts self.old m
             → IsNamed name self.old → IsWindow (I.content disk.old) window seen
             → I.content disk.new ≡ option_map (stored_over window
-            (needs_session seen.acts (execute_turn x made (disk_of made name seen) result seen.acts queue)).acts) (I.content disk.old) }
-        ensures more { (x : Setting) (made : Creation) (acts : List Act) (m : PoolMemory) → Stands x made acts self.old m
+            (needs_session seen.acts
+            (execute_turn x made (disk_of made name seen) result seen.acts queue)).acts) (I.content disk.old) }
+        ensures more { (x : Setting) (made : Creation) (acts : List Act) (m : PoolMemory) →
+            Stands x made acts self.old m
             → StandsForMore x made acts self.new m }
         ensures size { I.size disk.new ≡ I.size disk.old }
         ensures later { I.faults disk.old ≤ I.faults disk.new }
         ensures cause { result ≡ true → Rose (I.faults disk.old) (I.faults disk.new) }
 
         // A flush ends with status 0 only where the count of flushes rose.
-        ensures flushed { (x : Setting) (made : Creation) (name : List ℕ) (seen : Seen) (m : PoolMemory) → Stands x made seen.acts self.old m
+        ensures flushed { (x : Setting) (made : Creation) (name : List ℕ) (seen : Seen) (m : PoolMemory) →
+            Stands x made seen.acts self.old m
             → IsNamed name self.old → IsWindow (I.content disk.old) window seen
-            → (holds_flush x seen.acts queue && is_fine (needs_session seen.acts (execute_turn x made (disk_of made name seen) result seen.acts queue)).answer) ≡ true
+            → (holds_flush x seen.acts queue && is_fine
+            (needs_session seen.acts
+            (execute_turn x made (disk_of made name seen) result seen.acts queue)).answer) ≡ true
             → Rose (I.flushes disk.old) (I.flushes disk.new) }
         ensures flushes { I.flushes disk.old ≤ I.flushes disk.new }
         ensures device { self.new.device ≡ self.old.device }

@@ -75,8 +75,10 @@ impl Instance {
         requires held { IsHeld self.old pool.old }
         requires reached { IsReached self.old pool.old }
         requires room { IsWithin (2 ^ 59) self.old }
-        ensures line { (x : Setting) (made : Creation) (seen : Seen) → Stands x made seen.acts self.old pool.old → seen.now ≡ now
-            → MayTell (λ said. T.heard told.old said told.new) (dev_turn x made seen step.now) (After x made seen.acts self.new pool.new) result }
+        ensures line { (x : Setting) (made : Creation) (seen : Seen) →
+            Stands x made seen.acts self.old pool.old → seen.now ≡ now
+            → MayTell (λ said. T.heard told.old said told.new) (dev_turn x made seen step.now)
+            (After x made seen.acts self.new pool.new) result }
         ensures rest { KeepsOthers self.old self.new pool.old pool.new }
         ensures within { (most : ℕ) → IsWithin most self.old → IsWithin (most + 1) self.new }
         ensures named { (name : List ℕ) → IsNamed name self.old → IsNamed name self.new }
@@ -101,8 +103,10 @@ impl Instance {
         requires reached { IsReached self.old pool.old }
         requires room { IsWithin (2 ^ 59) self.old }
         requires plain { is_execute step.now ≡ false }
-        ensures line { (x : Setting) (made : Creation) (name : List ℕ) (seen : Seen) → Stands x made seen.acts self.old pool.old
-            → MayTell (λ said. T.heard told.old said told.new) (queue_turn x made name seen false step.now) (After x made seen.acts self.new pool.new) result }
+        ensures line { (x : Setting) (made : Creation) (name : List ℕ) (seen : Seen) →
+            Stands x made seen.acts self.old pool.old
+            → MayTell (λ said. T.heard told.old said told.new) (queue_turn x made name seen false step.now)
+            (After x made seen.acts self.new pool.new) result }
         ensures named { (name : List ℕ) → IsNamed name self.old → IsNamed name self.new }
         ensures rest { KeepsOthers self.old self.new pool.old pool.new }
         ensures within { (most : ℕ) → IsWithin most self.old → IsWithin (most + 1) self.new }
@@ -145,16 +149,25 @@ impl Instance {
         requires window { line.window.first + line.window.count ≤ I.size disk.old }
 
         // An execute is answered on an image that tells the bytes that the line sees.
-        ensures line { (x : Setting) (made : Creation) (name : List ℕ) (seen : Seen) → Stands x made seen.acts self.old pool.old
-            → (is_execute line.entry.step.now ≡ true → IsNamed name self.old × IsWindow (I.content disk.old) line.entry.window seen)
-            → Plays (λ said. T.heard told.old said told.new) (λ failed. queue_turn x made name seen failed line.entry.step.now) (After x made seen.acts self.new pool.new) result }
-        ensures content { (x : Setting) (made : Creation) (name : List ℕ) (seen : Seen) → is_execute line.entry.step.now ≡ true
-            → Stands x made seen.acts self.old pool.old → IsNamed name self.old → IsWindow (I.content disk.old) line.entry.window seen
-            → IfOk result (λ failed. I.content disk.new ≡ option_map (stored_over line.entry.window (queue_turn x made name seen failed line.entry.step.now).acts) (I.content disk.old)) }
+        ensures line { (x : Setting) (made : Creation) (name : List ℕ) (seen : Seen) →
+            Stands x made seen.acts self.old pool.old
+            → (is_execute line.entry.step.now ≡ true → IsNamed name self.old
+            × IsWindow (I.content disk.old) line.entry.window seen)
+            → Plays (λ said. T.heard told.old said told.new)
+            (λ failed. queue_turn x made name seen failed line.entry.step.now)
+            (After x made seen.acts self.new pool.new) result }
+        ensures content { (x : Setting) (made : Creation) (name : List ℕ) (seen : Seen) →
+            is_execute line.entry.step.now ≡ true
+            → Stands x made seen.acts self.old pool.old → IsNamed name self.old →
+            IsWindow (I.content disk.old) line.entry.window seen
+            → IfOk result (λ failed. I.content disk.new ≡ option_map
+            (stored_over line.entry.window (queue_turn x made name seen failed line.entry.step.now).acts)
+            (I.content disk.old)) }
 
         // Whatever the image tells, it stands for some acts more.
         ensures more { (x : Setting) (made : Creation) (acts : List Act) → Stands x made acts self.old pool.old
-            → MatchResult result (λ _. StandsForMore x made acts self.new pool.new) (λ _. Stands x made acts self.new pool.new) }
+            → MatchResult result (λ _. StandsForMore x made acts self.new pool.new)
+            (λ _. Stands x made acts self.new pool.new) }
 
         // Only an execute touches the image.
         ensures only_execute { is_execute line.entry.step.now ≡ false →
@@ -165,9 +178,11 @@ impl Instance {
         ensures cause { IfOk result (λ failed. failed ≡ true → Rose (I.faults disk.old) (I.faults disk.new)) }
 
         // A flush ends with status 0 only where the count of flushes rose.
-        ensures flushed { (x : Setting) (made : Creation) (name : List ℕ) (seen : Seen) → Stands x made seen.acts self.old pool.old
+        ensures flushed { (x : Setting) (made : Creation) (name : List ℕ) (seen : Seen) →
+            Stands x made seen.acts self.old pool.old
             → IsNamed name self.old → IsWindow (I.content disk.old) line.entry.window seen
-            → IfOk result (λ failed. is_flush x seen.acts line.entry.step.now (queue_turn x made name seen failed line.entry.step.now).answer ≡ true
+            → IfOk result (λ failed. is_flush x seen.acts line.entry.step.now
+            (queue_turn x made name seen failed line.entry.step.now).answer ≡ true
             → Rose (I.flushes disk.old) (I.flushes disk.new)) }
         ensures flushes { I.flushes disk.old ≤ I.flushes disk.new }
         ensures named { (name : List ℕ) → IsNamed name self.old → IsNamed name self.new }

@@ -47,7 +47,8 @@ impl Instance {
         requires held { IsHeld self.old pool.old }
         requires reached { IsReached self.old pool.old }
         ensures line { (x : Setting) (made : Creation) (acts : List Act) → Stands x made acts self.old pool.old
-            → MayTell (λ said. T.heard told.old said told.new) (needs_session acts (walk_turn x made acts queue head)) (After x made acts self.new pool.new) result }
+            → MayTell (λ said. T.heard told.old said told.new)
+            (needs_session acts (walk_turn x made acts queue head)) (After x made acts self.new pool.new) result }
         ensures rest { KeepsRest self.old.device.memory self.new.device.memory pool.old pool.new }
         ensures path { self.new.device.path ≡ self.old.device.path }
         ensures named { (name : List ℕ) → IsNamed name self.old → IsNamed name self.new }

@@ -38,7 +38,8 @@ impl Model for Iova {
 
     ghost view = { λ s. record { counts = s.counts.items; first = s.first; «end» = s.end } };
 
-    ghost invariant = { λ s. IsSound s.words s.full (record { counts = s.counts.items; first = s.first; «end» = s.end }) };
+    ghost invariant = { λ s. IsSound s.words s.full
+        (record { counts = s.counts.items; first = s.first; «end» = s.end }) };
 }
 
 impl Iova {

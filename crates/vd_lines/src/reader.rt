@@ -59,9 +59,15 @@ impl Model for LineReader {
 
     ghost Value = { Ahead };
 
-    ghost view = { λ r. record { line = take r.len (drop r.start r.buffer.items); pending = drop r.next r.buffer.items; taken = r.taken } };
+    ghost view = { λ r. record {
+      line = take r.len (drop r.start r.buffer.items);
+      pending = drop r.next r.buffer.items;
+      taken = r.taken;
+    } };
 
-    ghost invariant = { λ r. (r.start + r.len ≤ length r.buffer.items) × (r.next ≤ r.searched) × (r.searched ≤ length r.buffer.items) × HasNoneBetween r.buffer.items r.next r.searched × (r.taken ≤ 67108864) };
+    ghost invariant = { λ r. (r.start + r.len ≤ length r.buffer.items) × (r.next ≤ r.searched)
+        × (r.searched ≤ length r.buffer.items) × HasNoneBetween r.buffer.items r.next r.searched
+        × (r.taken ≤ 67108864) };
 }
 
 /// Where the first LF is.
@@ -101,7 +107,8 @@ impl LineReader {
     #[inline(always)]
     fn cut(&mut self) -> bool
         ensures { MatchBool result
-            ((self.old.pending ≡ self.new.line ++ (10 ∷ self.new.pending)) × IsOneLine self.new.line × (self.new.taken ≡ self.old.taken))
+            ((self.old.pending ≡ self.new.line ++ (10 ∷ self.new.pending)) × IsOneLine self.new.line
+            × (self.new.taken ≡ self.old.taken))
             ((self.new ≡ self.old) × IsOneLine self.old.pending) }
     {
         match line_end(&self.buffer[self.searched..]) {

@@ -52,7 +52,8 @@ fn end_of(progress: Progress) -> Ended
 fn finish<K: Sink>(progress: Progress, mut waiting: Waiting, sink: &mut K) -> Progress
     requires few { is_own progress.stop ≡ true → progress.lines < 2 ^ 62 }
     ensures finished { Finished progress result waiting (K.held sink.old) (K.held sink.new) }
-    ensures failed { result.stop ≡ Stop.SinkFailed → progress.stop ≢ Stop.SinkFailed → Rose (K.faults sink.old) (K.faults sink.new) }
+    ensures failed { result.stop ≡ Stop.SinkFailed → progress.stop ≢ Stop.SinkFailed →
+        Rose (K.faults sink.old) (K.faults sink.new) }
     ensures later { K.faults sink.old ≤ K.faults sink.new }
     ensures source { result.stop ≡ Stop.SourceFailed → progress.stop ≡ Stop.SourceFailed }
     ensures few { is_own result.stop ≡ true → result.lines < 2 ^ 62 }
@@ -84,7 +85,8 @@ pub fn run_lines<M: Machine<O>, O, S: Source, K: Sink>(
     // is left of it, and that these replies were written: all, or a front that ends within the reply to a line.
     ensures ran { Ran M.reads M.alone (λ d r. M.answered machine outside.old d r result.0 outside.new)
         (λ d r l. M.short machine outside.old d r l result.0 outside.new) (S.left source.old)
-        (stop_of_status result.1.status) result.1.line result.1.lines_done (S.left source.new) (K.held sink.old) (K.held sink.new) }
+        (stop_of_status result.1.status) result.1.line result.1.lines_done (S.left source.new)
+        (K.held sink.old) (K.held sink.new) }
     ensures fits { (n : ℕ) × M.fits n result.0 outside.new }
 
     // A fault of the outside is told only where there was one.

@@ -52,7 +52,8 @@ pub trait Machine<O> {
         ensures read { IfOk result (IsOf (reads line.now) (alone line.now) empty) }
         ensures answered { (first : Self) (beside : O) (done replies : List (List ℕ)) → lines ≡ length done →
             answered first beside done replies self.old outside.old →
-            IfOk result (AnsweredBy line.now (told self.new) done replies (λ d r. answered first beside d r self.new outside.new)) }
+            IfOk result (AnsweredBy line.now (told self.new) done replies
+            (λ d r. answered first beside d r self.new outside.new)) }
         ensures short { (first : Self) (beside : O) (done replies : List (List ℕ)) → lines ≡ length done →
             answered first beside done replies self.old outside.old →
             OnErr result (short first beside done replies line.now self.new outside.new) };

@@ -37,12 +37,15 @@ fn ask<M: Machine<O>, O, K: Sink>(
     ensures fits { M.fits (session.old.lines + 1) session.new.machine outside.new }
     ensures read { IfOk result (IsOf (M.reads line.now) (M.alone line.now) true) }
     ensures none { result ≡ Ok Answer.Told → M.alone line.now ≡ true → session.new.waiting.bytes ≡ [] }
-    ensures flushed { OnOk result (Flushed session.old.waiting session.new.waiting (K.held sink.old) (K.held sink.new)) }
-    ensures stopped { IfErr result (λ p. StoppedBy p.stop p.lines true session.old.lines session.old.waiting session.new.waiting
+    ensures flushed { OnOk result
+        (Flushed session.old.waiting session.new.waiting (K.held sink.old) (K.held sink.new)) }
+    ensures stopped { IfErr result
+        (λ p. StoppedBy p.stop p.lines true session.old.lines session.old.waiting session.new.waiting
         (K.held sink.old) (K.held sink.new)) }
     ensures run { (first : M) (beside : O) (done replies : List (List ℕ)) → session.old.lines ≡ length done →
         M.answered first beside done replies session.old.machine outside.old → MatchResult result
-        (AnsweredBy line.now (M.told session.new.machine) done replies (λ d r. M.answered first beside d r session.new.machine outside.new))
+        (AnsweredBy line.now (M.told session.new.machine) done replies
+        (λ d r. M.answered first beside d r session.new.machine outside.new))
         (λ p. AskedTo p.stop (M.answered first beside done replies session.new.machine outside.new)
         (M.short first beside done replies line.now session.new.machine outside.new)) }
     ensures later { K.faults sink.old ≤ K.faults sink.new }
@@ -93,10 +96,12 @@ fn answer<M: Machine<O>, O, K: Sink>(
         session.old.waiting session.new.waiting (K.held sink.old) (K.held sink.new)) }
     ensures run { (first : M) (beside : O) (done replies : List (List ℕ)) → session.old.lines ≡ length done →
         M.answered first beside done replies session.old.machine outside.old → MatchResult result
-        (λ _. M.answered first beside (done ++ line.now ∷ []) (replies ++ M.told session.new.machine ∷ []) session.new.machine outside.new)
+        (λ _. M.answered first beside (done ++ line.now ∷ [])
+        (replies ++ M.told session.new.machine ∷ []) session.new.machine outside.new)
         (λ p. LeftAt p.stop (M.answered first beside done replies session.new.machine outside.new)
         (M.short first beside done replies line.now session.new.machine outside.new)
-        ((M.reads line.now ≡ true) × (M.alone line.now ≡ true → session.new.waiting.bytes ≡ []) × M.answered first beside
+        ((M.reads line.now ≡ true) × (M.alone line.now ≡ true → session.new.waiting.bytes ≡ [])
+        × M.answered first beside
         (done ++ line.now ∷ []) (replies ++ M.told session.new.machine ∷ []) session.new.machine outside.new)) }
     ensures later { K.faults sink.old ≤ K.faults sink.new }
     ensures sink_failed { IfErr result (λ p. p.stop ≡ Stop.SinkFailed → Rose (K.faults sink.old) (K.faults sink.new)) }
@@ -165,7 +170,8 @@ pub fn play<M: Machine<O>, O, S: Source, K: Sink>(
     ensures played { Played M.reads M.alone
         (λ d r. M.answered session.old.machine outside.old d r session.new.machine outside.new)
         (λ d r l. M.short session.old.machine outside.old d r l session.new.machine outside.new)
-        (S.left source.old) result.stop session.new.waiting result.lines (S.left source.new) (K.held sink.old) (K.held sink.new) }
+        (S.left source.old) result.stop session.new.waiting result.lines (S.left source.new) (K.held sink.old)
+        (K.held sink.new) }
     ensures fits { (n : ℕ) × M.fits n session.new.machine outside.new }
     ensures source_failed { result.stop ≡ Stop.SourceFailed → Rose (S.faults source.old) (S.faults source.new) }
     ensures sink_failed { result.stop ≡ Stop.SinkFailed → Rose (K.faults sink.old) (K.faults sink.new) }

@@ -44,7 +44,8 @@ impl Memory {
         requires ready { T.is_ready told.old }
         requires held { IsHeld self.old pool.old }
         ensures line { (x : Setting) (acts : List Act) → Stands x acts self.old pool.old →
-            Tells (λ said. T.heard told.old said told.new) (lift Node (store_turn x acts at bytes.now)) (After x acts self.new pool.new) }
+            Tells (λ said. T.heard told.old said told.new) (lift Node (store_turn x acts at bytes.now))
+            (After x acts self.new pool.new) }
         ensures rest { KeepsRest self.old self.new pool.old pool.new }
     {
         match self.domain.store(pool, at, bytes) {
@@ -64,7 +65,8 @@ impl Memory {
         requires ready { T.is_ready told.old }
         requires held { IsHeld self.old pool.now }
         ensures line { (x : Setting) (acts : List Act) → Stands x acts self.old pool.now →
-            MayTell (λ said. T.heard told.old said told.new) (lift Node (load_turn x acts at len)) (After x acts self.new pool.now) result }
+            MayTell (λ said. T.heard told.old said told.new) (lift Node (load_turn x acts at len))
+            (After x acts self.new pool.now) result }
         ensures rest { KeepsFrames self.old self.new }
     {
         self.take_room(len as usize)?;
@@ -82,7 +84,8 @@ impl Memory {
     pub fn find_region(&self, range: Range) -> Result<Region, Errno>
         ensures { (x : Setting) (acts : List Act) (m : pool.PoolMemory) → Stands x acts self.now m → MatchResult result
             (λ region. (turn : Region → Turn NodeAct) → found_or x acts range.start range.last turn ≡ turn region)
-            (λ errno. (turn : Region → Turn NodeAct) → found_or x acts range.start range.last turn ≡ refusal_turn errno) }
+            (λ errno. (turn : Region → Turn NodeAct) →
+            found_or x acts range.start range.last turn ≡ refusal_turn errno) }
     {
         self.domain.lookup(range)
     }
@@ -91,7 +94,8 @@ impl Memory {
     pub fn lookup<T: Hears>(&self, range: Range, told: &mut T)
         requires { T.is_ready told.old }
         ensures line { (x : Setting) (acts : List Act) (m : pool.PoolMemory) → Stands x acts self.now m →
-            Tells (λ said. T.heard told.old said told.new) (lift Node (found_or x acts range.start range.last lookup_turn)) (After x acts self.now m) }
+            Tells (λ said. T.heard told.old said told.new)
+            (lift Node (found_or x acts range.start range.last lookup_turn)) (After x acts self.now m) }
     {
         match self.domain.lookup(range) {
             Ok(region) => told.fields(&[
@@ -112,7 +116,8 @@ impl Memory {
     pub fn iovainfo<T: Hears>(&self, range: Range, told: &mut T)
         requires { T.is_ready told.old }
         ensures line { (x : Setting) (acts : List Act) (m : pool.PoolMemory) → Stands x acts self.now m →
-            Tells (λ said. T.heard told.old said told.new) (lift Node (found_or x acts range.start range.last iovainfo_turn)) (After x acts self.now m) }
+            Tells (λ said. T.heard told.old said told.new)
+            (lift Node (found_or x acts range.start range.last iovainfo_turn)) (After x acts self.now m) }
     {
         match self.domain.lookup(range) {
             Ok(region) => told.fields(&[
@@ -131,7 +136,8 @@ impl Memory {
     pub fn area<T: Hears>(&mut self, bytes: u64, told: &mut T) -> Result<(), AllocError>
         requires { T.is_ready told.old }
         ensures line { (x : Setting) (acts : List Act) (m : pool.PoolMemory) → Stands x acts self.old m →
-            MayTell (λ said. T.heard told.old said told.new) (lift Node (new_area_turn acts bytes)) (After x acts self.new m) result }
+            MayTell (λ said. T.heard told.old said told.new) (lift Node (new_area_turn acts bytes))
+            (After x acts self.new m) result }
         ensures rest { KeepsFrames self.old self.new }
     {
         if bytes == 0 || bytes % SLOT_SIZE != 0 || bytes > AREA_LIMIT {
@@ -150,7 +156,8 @@ impl Memory {
     pub fn areaput<T: Hears>(&mut self, offset: u64, bytes: &[u8], told: &mut T)
         requires { T.is_ready told.old }
         ensures line { (x : Setting) (acts : List Act) (m : pool.PoolMemory) → Stands x acts self.old m →
-            Tells (λ said. T.heard told.old said told.new) (lift Node (areaput_turn acts offset bytes.now)) (After x acts self.new m) }
+            Tells (λ said. T.heard told.old said told.new) (lift Node (areaput_turn acts offset bytes.now))
+            (After x acts self.new m) }
         ensures rest { KeepsFrames self.old self.new }
     {
         let size = match self.domain.area_len() {
@@ -173,7 +180,8 @@ impl Memory {
     ) -> Result<(), AllocError>
         requires { T.is_ready told.old }
         ensures line { (x : Setting) (acts : List Act) (m : pool.PoolMemory) → Stands x acts self.old m →
-            MayTell (λ said. T.heard told.old said told.new) (lift Node (areaget_turn x acts offset len)) (After x acts self.new m) result }
+            MayTell (λ said. T.heard told.old said told.new) (lift Node (areaget_turn x acts offset len))
+            (After x acts self.new m) result }
         ensures rest { KeepsFrames self.old self.new }
     {
         let size = match self.domain.area_len() {
@@ -198,7 +206,8 @@ impl Memory {
         requires ready { T.is_ready told.old }
         requires held { IsHeld self.old pool.old }
         ensures line { (x : Setting) (acts : List Act) → Stands x acts self.old pool.old →
-            Tells (λ said. T.heard told.old said told.new) (lift Node (regumem_turn x acts uaddr range.iova range.size)) (After x acts self.new pool.new) }
+            Tells (λ said. T.heard told.old said told.new)
+            (lift Node (regumem_turn x acts uaddr range.iova range.size)) (After x acts self.new pool.new) }
         ensures rest { KeepsRest self.old self.new pool.old pool.new }
     {
         tell(
@@ -212,7 +221,8 @@ impl Memory {
         requires ready { T.is_ready told.old }
         requires held { IsHeld self.old pool.old }
         ensures line { (x : Setting) (acts : List Act) → Stands x acts self.old pool.old →
-            Tells (λ said. T.heard told.old said told.new) (lift Node (deregumem_turn x acts range.iova range.size)) (After x acts self.new pool.new) }
+            Tells (λ said. T.heard told.old said told.new)
+            (lift Node (deregumem_turn x acts range.iova range.size)) (After x acts self.new pool.new) }
         ensures rest { KeepsRest self.old self.new pool.old pool.new }
     {
         tell(told, self.domain.dereg_umem(pool, range.iova, range.size));

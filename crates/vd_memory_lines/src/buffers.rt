@@ -21,7 +21,8 @@ impl Memory {
     pub fn buf<T: Hears>(&mut self, bytes: &[u8], told: &mut T) -> Result<(), AllocError>
         requires { T.is_ready told.old }
         ensures line { (x : Setting) (acts : List Act) (m : pool.PoolMemory) → Stands x acts self.old m →
-            MayTell (λ said. T.heard told.old said told.new) (lift Driver (buf_turn acts bytes.now)) (After x acts self.new m) result }
+            MayTell (λ said. T.heard told.old said told.new) (lift Driver (buf_turn acts bytes.now))
+            (After x acts self.new m) result }
         ensures rest { self.new ≡ record self.old { buffers = self.new.buffers } }
     {
         if !self.buffers.has_room(bytes.len() as u64) {
@@ -37,7 +38,8 @@ impl Memory {
     pub fn zeros<T: Hears>(&mut self, len: u64, told: &mut T) -> Result<(), AllocError>
         requires { T.is_ready told.old }
         ensures line { (x : Setting) (acts : List Act) (m : pool.PoolMemory) → Stands x acts self.old m →
-            MayTell (λ said. T.heard told.old said told.new) (lift Driver (zeros_turn acts len)) (After x acts self.new m) result }
+            MayTell (λ said. T.heard told.old said told.new) (lift Driver (zeros_turn acts len))
+            (After x acts self.new m) result }
         ensures rest { self.new ≡ record self.old { buffers = self.new.buffers } }
     {
         if !self.buffers.has_room(len) {
@@ -53,7 +55,8 @@ impl Memory {
     pub fn free<T: Hears>(&mut self, buffer: u64, told: &mut T)
         requires { T.is_ready told.old }
         ensures line { (x : Setting) (acts : List Act) (m : pool.PoolMemory) → Stands x acts self.old m →
-            Tells (λ said. T.heard told.old said told.new) (lift Driver (free_turn acts buffer)) (After x acts self.new m) }
+            Tells (λ said. T.heard told.old said told.new) (lift Driver (free_turn acts buffer))
+            (After x acts self.new m) }
         ensures rest { self.new ≡ record self.old { buffers = self.new.buffers } }
     {
         if self.buffers.len_of(buffer).is_none() {
@@ -70,7 +73,8 @@ impl Memory {
     pub fn poke<T: Hears>(&mut self, buffer: u64, offset: u64, bytes: &[u8], told: &mut T)
         requires { T.is_ready told.old }
         ensures line { (x : Setting) (acts : List Act) (m : pool.PoolMemory) → Stands x acts self.old m →
-            Tells (λ said. T.heard told.old said told.new) (lift Driver (poke_turn acts buffer offset bytes.now)) (After x acts self.new m) }
+            Tells (λ said. T.heard told.old said told.new)
+            (lift Driver (poke_turn acts buffer offset bytes.now)) (After x acts self.new m) }
         ensures rest { self.new ≡ record self.old { buffers = self.new.buffers } }
     {
         tell(told, self.buffers.poke(buffer, offset, bytes));
@@ -86,7 +90,8 @@ impl Memory {
     ) -> Result<(), AllocError>
         requires { T.is_ready told.old }
         ensures line { (x : Setting) (acts : List Act) (m : pool.PoolMemory) → Stands x acts self.now m →
-            MayTell (λ said. T.heard told.old said told.new) (lift Driver (peek_turn x acts buffer offset len)) (After x acts self.now m) result }
+            MayTell (λ said. T.heard told.old said told.new) (lift Driver (peek_turn x acts buffer offset len))
+            (After x acts self.now m) result }
     {
         match self.buffers.range(buffer, offset, len) {
             Ok(text) => told.text(text),

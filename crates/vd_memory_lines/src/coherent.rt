@@ -24,7 +24,8 @@ impl Memory {
         requires ready { T.is_ready told.old }
         requires room { self.old.domain.made < 2 ^ 62 }
         ensures line { (x : Setting) (acts : List Act) (m : pool.PoolMemory) → Stands x acts self.old m →
-            MayTell (λ said. T.heard told.old said told.new) (lift Driver (coherent_turn x acts len)) (After x acts self.new m) result }
+            MayTell (λ said. T.heard told.old said told.new) (lift Driver (coherent_turn x acts len))
+            (After x acts self.new m) result }
         ensures rest { KeepsFrames self.old self.new }
     {
         tell_mapped(self.domain.alloc_coherent(len), told)
@@ -34,7 +35,8 @@ impl Memory {
     pub fn freecoherent<T: Hears>(&mut self, number: u64, told: &mut T)
         requires { T.is_ready told.old }
         ensures line { (x : Setting) (acts : List Act) (m : pool.PoolMemory) → Stands x acts self.old m →
-            Tells (λ said. T.heard told.old said told.new) (lift Driver (on_region acts number freecoherent_turn)) (After x acts self.new m) }
+            Tells (λ said. T.heard told.old said told.new)
+            (lift Driver (on_region acts number freecoherent_turn)) (After x acts self.new m) }
         ensures rest { KeepsFrames self.old self.new }
     {
         match self.domain.free_coherent(number) {
@@ -47,7 +49,8 @@ impl Memory {
     pub fn cput<T: Hears>(&mut self, region: u64, offset: u64, bytes: &[u8], told: &mut T)
         requires { T.is_ready told.old }
         ensures line { (x : Setting) (acts : List Act) (m : pool.PoolMemory) → Stands x acts self.old m →
-            Tells (λ said. T.heard told.old said told.new) (lift Driver (on_region acts region (cput_turn offset bytes.now))) (After x acts self.new m) }
+            Tells (λ said. T.heard told.old said told.new)
+            (lift Driver (on_region acts region (cput_turn offset bytes.now))) (After x acts self.new m) }
         ensures rest { KeepsFrames self.old self.new }
     {
         let at = match self.domain.place_in(region, offset, bytes.len() as u64) {
@@ -71,7 +74,8 @@ impl Memory {
     ) -> Result<(), AllocError>
         requires { T.is_ready told.old }
         ensures line { (x : Setting) (acts : List Act) (m : pool.PoolMemory) → Stands x acts self.old m →
-            MayTell (λ said. T.heard told.old said told.new) (lift Driver (on_region acts region (cget_turn x acts offset len))) (After x acts self.new m) result }
+            MayTell (λ said. T.heard told.old said told.new)
+            (lift Driver (on_region acts region (cget_turn x acts offset len))) (After x acts self.new m) result }
         ensures rest { KeepsFrames self.old self.new }
     {
         let at = match self.domain.place_in(region, offset, len) {

@@ -50,10 +50,13 @@ fn end_mapping(domain: &mut Domain, pool: &mut Pool, number: u64, want: &Want, b
     requires live { IfSome (mapping_of domain.old number) (λ m. m.want ≡ want.now) }
     requires range { want.now.offset + want.now.len ≤ length bytes.old }
     ensures kept { Keeps domain.old.bounce.frames domain.new.bounce.frames pool.old pool.new }
-    ensures ok { (x : Setting) (acts : List Act) (m : Streaming) → mapping_of domain.old number ≡ Some m → memory.Stands x acts domain.old pool.old
+    ensures ok { (x : Setting) (acts : List Act) (m : Streaming) → mapping_of domain.old number ≡ Some m →
+        memory.Stands x acts domain.old pool.old
         → memory.Stands x (Driver (Unmapped m) ∷ acts) domain.new pool.new }
-    ensures given { (x : Setting) (acts : List Act) (m : Streaming) → mapping_of domain.old number ≡ Some m → memory.Stands x acts domain.old pool.old
-        → (j : ℕ) → j < length bytes.old → slice_index bytes.new j ≡ given x.per_page acts m j (slice_index bytes.old j) }
+    ensures given { (x : Setting) (acts : List Act) (m : Streaming) → mapping_of domain.old number ≡ Some m →
+        memory.Stands x acts domain.old pool.old
+        → (j : ℕ) → j < length bytes.old →
+        slice_index bytes.new j ≡ given x.per_page acts m j (slice_index bytes.old j) }
     ensures len { length bytes.new ≡ length bytes.old }
     ensures counts { (domain.new.maps ≡ domain.old.maps) × (domain.new.made ≡ domain.old.made) }
     ensures page { domain.new.bounce.per_page ≡ domain.old.bounce.per_page }
@@ -70,10 +73,13 @@ fn fetch(domain: &mut Domain, pool: &mut Pool, number: u64, want: &Want, bytes: 
     requires live { IfSome (mapping_of domain.old number) (λ m. m.want ≡ want.now) }
     requires way { is_from_device want.now.dir ≡ true }
     requires range { want.now.offset + want.now.len ≤ length bytes.old }
-    ensures ok { (x : Setting) (acts : List Act) (m : Streaming) → mapping_of domain.old number ≡ Some m → memory.Stands x acts domain.old pool.old
+    ensures ok { (x : Setting) (acts : List Act) (m : Streaming) → mapping_of domain.old number ≡ Some m →
+        memory.Stands x acts domain.old pool.old
         → memory.Stands x (Driver (Synced_cpu m) ∷ acts) domain.new pool.new }
-    ensures given { (x : Setting) (acts : List Act) (m : Streaming) → mapping_of domain.old number ≡ Some m → memory.Stands x acts domain.old pool.old
-        → (j : ℕ) → j < length bytes.old → slice_index bytes.new j ≡ given x.per_page acts m j (slice_index bytes.old j) }
+    ensures given { (x : Setting) (acts : List Act) (m : Streaming) → mapping_of domain.old number ≡ Some m →
+        memory.Stands x acts domain.old pool.old
+        → (j : ℕ) → j < length bytes.old →
+        slice_index bytes.new j ≡ given x.per_page acts m j (slice_index bytes.old j) }
     ensures len { length bytes.new ≡ length bytes.old }
     ensures same { (domain.new ≡ domain.old) × (pool.new ≡ pool.old) }
 {
@@ -97,7 +103,8 @@ impl Memory {
         requires held { IsHeld self.old pool.old }
         requires room { self.old.domain.maps < 2 ^ 62 }
         ensures line { (x : Setting) (acts : List Act) → Stands x acts self.old pool.old →
-            MayTell (λ said. T.heard told.old said told.new) (lift Driver (map_turn x acts want)) (After x acts self.new pool.new) result }
+            MayTell (λ said. T.heard told.old said told.new) (lift Driver (map_turn x acts want))
+            (After x acts self.new pool.new) result }
         ensures rest { KeepsRest self.old self.new pool.old pool.new }
     {
         let text = match self.buffers.range(want.buffer, want.offset, want.len) {
@@ -116,7 +123,8 @@ impl Memory {
         requires held { IsHeld self.old pool.old }
         requires reached { IsReached self.old pool.old }
         ensures line { (x : Setting) (acts : List Act) → Stands x acts self.old pool.old →
-            Tells (λ said. T.heard told.old said told.new) (lift Driver (on_mapping acts number unmap_turn)) (After x acts self.new pool.new) }
+            Tells (λ said. T.heard told.old said told.new) (lift Driver (on_mapping acts number unmap_turn))
+            (After x acts self.new pool.new) }
         ensures rest { KeepsRest self.old self.new pool.old pool.new }
     {
         let want = match self.domain.info(number) {
@@ -134,7 +142,8 @@ impl Memory {
         requires ready { T.is_ready told.old }
         requires held { IsHeld self.old pool.old }
         ensures line { (x : Setting) (acts : List Act) → Stands x acts self.old pool.old →
-            Tells (λ said. T.heard told.old said told.new) (lift Driver (on_mapping acts number syncdev_turn)) (After x acts self.new pool.new) }
+            Tells (λ said. T.heard told.old said told.new) (lift Driver (on_mapping acts number syncdev_turn))
+            (After x acts self.new pool.new) }
         ensures rest { KeepsRest self.old self.new pool.old pool.new }
     {
         let want = match self.domain.info(number) {
@@ -158,7 +167,8 @@ impl Memory {
         requires held { IsHeld self.old pool.old }
         requires reached { IsReached self.old pool.old }
         ensures line { (x : Setting) (acts : List Act) → Stands x acts self.old pool.old →
-            Tells (λ said. T.heard told.old said told.new) (lift Driver (on_mapping acts number synccpu_turn)) (After x acts self.new pool.new) }
+            Tells (λ said. T.heard told.old said told.new) (lift Driver (on_mapping acts number synccpu_turn))
+            (After x acts self.new pool.new) }
         ensures rest { KeepsRest self.old self.new pool.old pool.new }
     {
         let want = match self.domain.info(number) {

@@ -33,7 +33,8 @@ impl Memory {
         requires reached { IsReached self.old pool.old }
         requires room { (self.old.domain.maps < 2 ^ 62) × (self.old.domain.made < 2 ^ 62) }
         ensures line { (x : Setting) (acts : List Act) → Stands x acts self.old pool.old →
-            MayTell (λ said. T.heard told.old said told.new) (lift Driver (driver_turn x acts step.now)) (After x acts self.new pool.new) result }
+            MayTell (λ said. T.heard told.old said told.new) (lift Driver (driver_turn x acts step.now))
+            (After x acts self.new pool.new) result }
         ensures rest { KeepsRest self.old self.new pool.old pool.new }
         ensures free_of_memory { is_frugal_driver_line step.now ≡ true → IsOk result }
     {
@@ -85,7 +86,8 @@ impl Memory {
         requires held { IsHeld self.old pool.old }
         requires reached { IsReached self.old pool.old }
         ensures line { (x : Setting) (acts : List Act) → Stands x acts self.old pool.old →
-            Tells (λ said. T.heard told.old said told.new) (lift Driver (driver_turn x acts step.now)) (After x acts self.new pool.new) }
+            Tells (λ said. T.heard told.old said told.new) (lift Driver (driver_turn x acts step.now))
+            (After x acts self.new pool.new) }
         ensures rest { KeepsRest self.old self.new pool.old pool.new }
     {
         match step {
@@ -123,7 +125,8 @@ impl Memory {
         requires ready { T.is_ready told.old }
         requires held { IsHeld self.old pool.old }
         ensures line { (x : Setting) (acts : List Act) → Stands x acts self.old pool.old →
-            MayTell (λ said. T.heard told.old said told.new) (lift Node (area_turn x acts step.now)) (After x acts self.new pool.new) result }
+            MayTell (λ said. T.heard told.old said told.new) (lift Node (area_turn x acts step.now))
+            (After x acts self.new pool.new) result }
         ensures rest { KeepsRest self.old self.new pool.old pool.new }
         ensures free_of_memory { is_frugal_area_line step.now ≡ true → IsOk result }
     {
@@ -149,7 +152,8 @@ impl Memory {
         requires form { is_frugal_area_line step.now ≡ true }
         requires held { IsHeld self.old pool.old }
         ensures line { (x : Setting) (acts : List Act) → Stands x acts self.old pool.old →
-            Tells (λ said. T.heard told.old said told.new) (lift Node (area_turn x acts step.now)) (After x acts self.new pool.new) }
+            Tells (λ said. T.heard told.old said told.new) (lift Node (area_turn x acts step.now))
+            (After x acts self.new pool.new) }
         ensures rest { KeepsRest self.old self.new pool.old pool.new }
     {
         match step {

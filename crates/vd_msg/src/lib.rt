@@ -14,6 +14,3 @@ mod messages;
 pub use laws::answered_once;
 pub use messages::{Messages, NotHeld, SendError};
 pub use vd_model::{Body, Sent, TakeAnswer};
-
-#[cfg(test)]
-mod tests;

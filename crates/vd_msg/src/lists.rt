@@ -158,7 +158,8 @@ pub fn make_room(
         × (ended.new.items ≡ ended.old.items) }
     ensures lens { (deque_len waiting.new ≡ deque_len waiting.old)
         × (deque_len held.new ≡ deque_len held.old) × (deque_len ended.new ≡ deque_len ended.old) }
-    ensures grows { (deque_capacity waiting.old ≤ deque_capacity waiting.new) × (deque_capacity held.old ≤ deque_capacity held.new)
+    ensures grows { (deque_capacity waiting.old ≤ deque_capacity waiting.new)
+        × (deque_capacity held.old ≤ deque_capacity held.new)
         × (deque_capacity ended.old ≤ deque_capacity ended.new) }
     ensures more { IfOk result (λ r. deque_len waiting.old + deque_len held.old + deque_len ended.old < r) }
     ensures has { IfOk result

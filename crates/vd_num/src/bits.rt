@@ -24,7 +24,8 @@ impl Flags for Status {
 
     ghost exact = { ⊤ };
 
-    ghost table = { (codes "ACKNOWLEDGE", 1) ∷ (codes "DRIVER", 2) ∷ (codes "DRIVER_OK", 4) ∷ (codes "FEATURES_OK", 8) ∷ (codes "NEEDS_RESET", 64) ∷ (codes "FAILED", 128) ∷ [] };
+    ghost table = { (codes "ACKNOWLEDGE", 1) ∷ (codes "DRIVER", 2) ∷ (codes "DRIVER_OK", 4) ∷
+        (codes "FEATURES_OK", 8) ∷ (codes "NEEDS_RESET", 64) ∷ (codes "FAILED", 128) ∷ [] };
 
     ghost set_of = { λ s. s.0 };
 

@@ -94,10 +94,14 @@ sizes_of chosen = if are_fit (chosen_sizes chosen) then Some (chosen_sizes chose
 abbrev pub nothing_chosen : Chosen
 nothing_chosen = record { page = None; bounce = None; iova = None; sectors = None; image = false }
 
--- the sizes that the words of a run ask for: `run` and then pairs, in any order, each at most once
+-- the sizes that pairs of words ask for, in any order, each at most once
+abbrev pub sizes_of_pairs : List (List ℕ) → Option Sizes
+sizes_of_pairs pairs = option_and_then sizes_of (with_pairs nothing_chosen pairs)
+
+-- the sizes that the words of a run ask for: `run` and then pairs
 abbrev pub asked_sizes : List (List ℕ) → Option Sizes
 asked_sizes [] = None
-asked_sizes (first ∷ rest) = if bytes_eq first (codes "run") then option_and_then sizes_of (with_pairs nothing_chosen rest) else None
+asked_sizes (first ∷ rest) = if bytes_eq first (codes "run") then sizes_of_pairs rest else None
 
 -- the path in pairs of words, if one names it
 abbrev pub path_in : List (List ℕ) → Option (List ℕ)

@@ -1,7 +1,7 @@
 //! The words of a run.
 
 ghost use Rattle.std.specs.Prelude.{◌≡◌, ◌≤◌, ◌^◌, ◌↔◌, MatchResult, MatchOption, IfOk, None, map, string_bytes};
-ghost use Rattle.vd_options.specs.Words.{decimal_from, decimal_of, between, page_size_of, slots_of, with_page, with_bounce, with_iova, with_sectors, with_image, with_pair, with_pairs, nothing_chosen, sizes_of, path_in, asked_sizes, asked_image, AreNumbers, IsOptions};
+ghost use Rattle.vd_options.specs.Words.{decimal_from, decimal_of, between, page_size_of, slots_of, with_page, with_bounce, with_iova, with_sectors, with_image, with_pair, with_pairs, nothing_chosen, sizes_of, sizes_of_pairs, path_in, asked_sizes, asked_image, AreNumbers, IsOptions};
 
 use crate::options::Options;
 use std::alloc::{AllocError, Global};
@@ -233,6 +233,15 @@ fn numbers_of(chosen: &Chosen) -> Option<Options>
     })
 }
 
+/// Reads the pairs of words that follow the first words of a run, as `read_words`, but for the path of an image, so that
+/// it takes no memory: `image` is `None`.
+pub fn read_sizes(pairs: &[String]) -> Option<Options>
+    ensures { MatchOption result (sizes_of_pairs (map string_bytes pairs.now) ≡ None)
+        (λ o. AreNumbers o (sizes_of_pairs (map string_bytes pairs.now))) }
+{
+    numbers_of(&read_pairs(pairs)?)
+}
+
 /// Reads the words of a run as `read_words`, but for the path of an image, so that it takes no
 /// memory: `image` is `None`.
 pub fn read_numbers(words: &Vec<String>) -> Result<Options, WordsError>
@@ -244,11 +253,7 @@ pub fn read_numbers(words: &Vec<String>) -> Result<Options, WordsError>
     if words.is_empty() || words[0].as_bytes() != b"run".as_slice() {
         return Err(WordsError::Usage);
     }
-    let chosen = match read_pairs(&words[1..]) {
-        None => return Err(WordsError::Usage),
-        Some(chosen) => chosen,
-    };
-    match numbers_of(&chosen) {
+    match read_sizes(&words[1..]) {
         None => Err(WordsError::Usage),
         Some(options) => Ok(options),
     }
@@ -266,7 +271,8 @@ pub fn read_numbers(words: &Vec<String>) -> Result<Options, WordsError>
 /// known to be those of a run.
 pub fn read_words(alloc: Global, words: &Vec<String>) -> Result<Options, WordsError>
     ensures { MatchResult result
-        (λ o. IsOptions o (asked_sizes (map string_bytes words.now.items)) (asked_image (map string_bytes words.now.items)))
+        (λ o. IsOptions o (asked_sizes (map string_bytes words.now.items))
+        (asked_image (map string_bytes words.now.items)))
         (λ e. (e ≡ WordsError.Usage) ↔ (asked_sizes (map string_bytes words.now.items) ≡ None)) }
 {
     let numbers = match read_numbers(words) {

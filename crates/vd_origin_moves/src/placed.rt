@@ -127,7 +127,8 @@ impl Span {
         ensures at { result.at ≡ min self.now.at end }
         ensures len { result.len ≡ min self.now.len (end - result.at) }
         ensures inside { result.at + result.len ≤ end }
-        ensures has { (a : ℕ) → is_within result.at result.len a ≡ (is_within self.now.at self.now.len a && nat_lt a end) }
+        ensures has { (a : ℕ) →
+            is_within result.at result.len a ≡ (is_within self.now.at self.now.len a && nat_lt a end) }
     {
         let at = self.at.min(end);
         Span {

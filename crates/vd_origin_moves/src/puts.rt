@@ -24,7 +24,8 @@ pub fn put(
 ) -> Result<(), AllocError>
     requires { (k : Kept) → kept ≡ Some k → k.base + k.size ≤ 2 ^ 32 }
     ensures bus { OnOk result ((a : ℕ) → a < 2 ^ 64
-        → origin_at bus.new a ≡ (if not (lies_in_area kept a) && is_within span.at span.len a then origin else origin_at bus.old a)) }
+        → origin_at bus.new a ≡
+        (if not (lies_in_area kept a) && is_within span.at span.len a then origin else origin_at bus.old a)) }
     ensures area { OnOk result ((o : ℕ) → o < 2 ^ 64
         → origin_at area.new o ≡ (if area_has kept span.at span.len o then origin else origin_at area.old o)) }
 {
@@ -44,7 +45,8 @@ fn put_kept(
 ) -> Result<(), AllocError>
     requires { kept.base + kept.size ≤ 2 ^ 32 }
     ensures bus { OnOk result ((a : ℕ) → a < 2 ^ 64
-        → origin_at bus.new a ≡ (if not (lies_in_area (Some kept) a) && is_within span.at span.len a then origin else origin_at bus.old a)) }
+        → origin_at bus.new a ≡
+        (if not (lies_in_area (Some kept) a) && is_within span.at span.len a then origin else origin_at bus.old a)) }
     ensures area { OnOk result ((o : ℕ) → o < 2 ^ 64
         → origin_at area.new o ≡ (if area_has (Some kept) span.at span.len o then origin else origin_at area.old o)) }
 {
@@ -74,7 +76,8 @@ fn absent_part(met: &Vec<Stretch>, stretch: &Stretch, page: u64, per_page: u64) 
     requires some { 0 < per_page }
     requires size { per_page ≤ 16 }
     ensures { (a : ℕ) → is_within result.at result.len a
-        ≡ ((stretch_meets per_page page stretch.now && not (list_any (stretch_meets per_page page) met.now.items)) && (page_of per_page a == page)) }
+        ≡ ((stretch_meets per_page page stretch.now && not
+        (list_any (stretch_meets per_page page) met.now.items)) && (page_of per_page a == page)) }
 {
     if !stretch.meets(page, per_page) || has_page(met, page, per_page) {
         return Span { at: 0, len: 0 };
@@ -89,7 +92,8 @@ fn used_part(live: &Vec<Placed>, page: u64, per_page: u64, end: u64) -> Span
     requires size { per_page ≤ 16 }
     ensures inside { result.at + result.len ≤ end }
     ensures has { (a : ℕ) → is_within result.at result.len a
-        ≡ (list_any (λ p. stretch_meets per_page page (stretch_of p)) live.now.items && ((page_of per_page a == page) && nat_lt a end)) }
+        ≡ (list_any (λ p. stretch_meets per_page page (stretch_of p)) live.now.items &&
+        ((page_of per_page a == page) && nat_lt a end)) }
 {
     if !is_used(live, page, per_page) {
         return Span { at: 0, len: 0 };
@@ -108,7 +112,8 @@ pub fn clear_absent(
     requires some { 0 < per_page }
     requires size { per_page ≤ 16 }
     ensures { OnOk result ((a : ℕ) → a < 2 ^ 64 → origin_at bus.new a
-        ≡ (if stretch_meets per_page (page_of per_page a) stretch && not (list_any (stretch_meets per_page (page_of per_page a)) met.now.items)
+        ≡ (if stretch_meets per_page (page_of per_page a) stretch && not
+        (list_any (stretch_meets per_page (page_of per_page a)) met.now.items)
         then Zero else origin_at bus.old a)) }
 {
     for page in stretch.slot / per_page..(stretch.slot + stretch.count) / per_page + 1 {
@@ -130,7 +135,8 @@ pub fn adopt(
     requires some { 0 < per_page }
     requires size { per_page ≤ 16 }
     ensures { OnOk result ((o : ℕ) → o < 2 ^ 64 → origin_at area.new o
-        ≡ (if is_within kept.base kept.size o && list_any (λ p. stretch_meets per_page (page_of per_page (o - kept.base)) (stretch_of p)) live.now.items
+        ≡ (if is_within kept.base kept.size o && list_any
+        (λ p. stretch_meets per_page (page_of per_page (o - kept.base)) (stretch_of p)) live.now.items
         then origin_at bus.now (o - kept.base) else origin_at area.old o)) }
 {
     for page in 0..kept.size / (SLOT_SIZE * per_page) + 1 {
@@ -152,7 +158,8 @@ pub fn give_back(
     requires some { 0 < per_page }
     requires size { per_page ≤ 16 }
     ensures { OnOk result ((a : ℕ) → a < 2 ^ 64 → origin_at bus.new a
-        ≡ (if nat_lt a kept.size && list_any (λ p. stretch_meets per_page (page_of per_page a) (stretch_of p)) live.now.items
+        ≡ (if nat_lt a kept.size && list_any
+        (λ p. stretch_meets per_page (page_of per_page a) (stretch_of p)) live.now.items
         then origin_at area.now (kept.base + a) else origin_at bus.old a)) }
 {
     for page in 0..kept.size / (SLOT_SIZE * per_page) + 1 {

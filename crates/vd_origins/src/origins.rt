@@ -76,7 +76,8 @@ impl Origins {
     pub fn copy(&mut self, at: u64, len: u64, from: &Origins, source: u64) -> Result<(), AllocError>
         requires { source + len ≤ 2 ^ 64 }
         ensures ok { OnOk result ((a : ℕ) → a < 2 ^ 64
-            → origin_at self.new a ≡ (if is_within at len a then origin_at from.now (source + (a - at)) else origin_at self.old a)) }
+            → origin_at self.new a ≡
+            (if is_within at len a then origin_at from.now (source + (a - at)) else origin_at self.old a)) }
         ensures err { OnErr result (self.new ≡ self.old) }
     {
         let Some(range) = range_of(at, len) else {
@@ -123,7 +124,8 @@ fn before(runs: &Vec<Run>, end: u64) -> Result<Vec<Run>, AllocError>
 /// Adds what some runs have above an address.
 fn push_behind(into: &mut Vec<Run>, runs: &[Run], last: u64) -> Result<(), AllocError>
     ensures { OnOk result ((a : ℕ) → a < 2 ^ 64
-        → origin_in into.new.items a ≡ or_origin (origin_in into.old.items a) (if nat_lt last a then origin_in runs.now a else None)) }
+        → origin_in into.new.items a ≡ or_origin (origin_in into.old.items a)
+        (if nat_lt last a then origin_in runs.now a else None)) }
 {
     if let Some(start) = last.checked_add(1) {
         let range = Range {

@@ -26,7 +26,8 @@ impl Run {
     /// Bytes that would come to lie at 2 to the 64th or above are left out.
     pub fn moved(&self, range: Range, to: u64) -> Option<Run>
         ensures { (a : ℕ) → a < 2 ^ 64
-            → kept_origin result a ≡ (if is_moved_from range to a then run_origin self.now (range.start + (a - to)) else None) }
+            → kept_origin result a ≡
+            (if is_moved_from range to a then run_origin self.now (range.start + (a - to)) else None) }
     {
         let first = self.first.max(range.start);
         let last = self.last.min(range.last);

@@ -40,9 +40,20 @@ impl Model for Pool {
 
     ghost Value = { PoolMemory };
 
-    ghost view = { λ p. record { frames = p.pages.items; place = p.place.items; spare = p.spare; per_page = p.per_page } };
+    ghost view = { λ p. record {
+      frames = p.pages.items;
+      place = p.place.items;
+      spare = p.spare;
+      per_page = p.per_page;
+    } };
 
-    ghost invariant = { λ p. IsSound (record { frames = p.pages.items; place = p.place.items; spare = p.spare; per_page = p.per_page }) p.order.items };
+    ghost invariant = { λ p. IsSound
+        (record {
+          frames = p.pages.items;
+          place = p.place.items;
+          spare = p.spare;
+          per_page = p.per_page;
+        }) p.order.items };
 }
 
 #[tactic(auto, unfolding(crate::specs::Memory::is_out, crate::specs::Memory::byte_of))]

@@ -104,7 +104,8 @@ impl Provenance {
 
     /// The daemon gets an area of zeros.
     pub fn new_area(&mut self, len: u64) -> Result<(), AllocError>
-        ensures { (g : ℕ) (acts : List Act) → KeepsOrigins g acts self.old → OnOk result (KeepsOrigins g (Node (Area_made len) ∷ acts) self.new) }
+        ensures { (g : ℕ) (acts : List Act) → KeepsOrigins g acts self.old →
+            OnOk result (KeepsOrigins g (Node (Area_made len) ∷ acts) self.new) }
     {
         self.set_area(Span { at: 0, len }, Origin::Zero)
     }
@@ -132,7 +133,8 @@ impl Provenance {
     pub fn deregister(&mut self, per_page: u64) -> Result<(), AllocError>
         requires some { 0 < per_page }
         requires size { per_page ≤ 16 }
-        ensures { (acts : List Act) → KeepsOrigins per_page acts self.old → OnOk result (KeepsOrigins per_page (Node Deregistered ∷ acts) self.new) }
+        ensures { (acts : List Act) → KeepsOrigins per_page acts self.old →
+            OnOk result (KeepsOrigins per_page (Node Deregistered ∷ acts) self.new) }
     {
         self.give_back(per_page)?;
         self.end()

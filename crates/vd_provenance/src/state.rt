@@ -36,7 +36,14 @@ impl Model for Provenance {
 
     ghost Value = { Traced };
 
-    ghost view = { λ p. record { bus = p.bus; area = p.area; kept = p.kept; live = p.live.items; shared = p.shared.items; met = p.met.items } };
+    ghost view = { λ p. record {
+      bus = p.bus;
+      area = p.area;
+      kept = p.kept;
+      live = p.live.items;
+      shared = p.shared.items;
+      met = p.met.items;
+    } };
 
     ghost invariant = { λ p. IsInside p.kept };
 }
@@ -237,7 +244,8 @@ impl Provenance {
 
     /// The origin of the byte at an address, wherever it is kept.
     pub(crate) fn origin(&self, at: u64) -> Origin
-        ensures { result ≡ (if lies_in_area self.now.kept at then origin_at self.now.area (base_of self.now.kept + at) else origin_at self.now.bus at) }
+        ensures { result ≡ (if lies_in_area self.now.kept at then origin_at self.now.area
+            (base_of self.now.kept + at) else origin_at self.now.bus at) }
     {
         match self.kept {
             Some(kept) if at < kept.size => self.area.get(kept.base + at),

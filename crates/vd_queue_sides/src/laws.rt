@@ -22,32 +22,40 @@ ghost use Rattle.vd_queue_sides.specs.Daemon.{is_daemon_act, IsAt, PositionStand
 
 /// The driver's side of a ring: what each act on it leaves, and what it counts and tests.
 pub fn driver_side()
-    ensures others { (q : ℕ) (act : Act) (acts : List Act) → is_ring_act q act ≡ false → (kept : Option (ℕ × DriverSide)) →
+    ensures others { (q : ℕ) (act : Act) (acts : List Act) → is_ring_act q act ≡ false →
+        (kept : Option (ℕ × DriverSide)) →
         RingStands acts q kept → RingStands (act ∷ acts) q kept }
     ensures made { (acts : List Act) (q region : ℕ) (place : RingPlace) →
         RingStands (Queue (Ring_made q place region) ∷ acts) q (Some (region, side_of place)) }
     ensures dropped { (acts : List Act) (q : ℕ) → RingStands (Queue (Ring_dropped q) ∷ acts) q None }
-    ensures added { (acts : List Act) (q region n : ℕ) (s : DriverSide) (request : Option Request) → RingStands acts q (Some (region, s)) →
-        0 < n → n ≤ length (unowned_descriptors s) → RingStands (Queue (Chain_added q (next_added s n request)) ∷ acts) q (Some (region, with_chain s n)) }
+    ensures added { (acts : List Act) (q region n : ℕ) (s : DriverSide) (request : Option Request) →
+        RingStands acts q (Some (region, s)) →
+        0 < n → n ≤ length (unowned_descriptors s) →
+        RingStands (Queue (Chain_added q (next_added s n request)) ∷ acts) q (Some (region, with_chain s n)) }
     ensures published { (acts : List Act) (q region : ℕ) (s : DriverSide) → RingStands acts q (Some (region, s)) →
         RingStands (Queue (Chains_published q) ∷ acts) q (Some (region, all_published s)) }
     ensures reclaimed { (acts : List Act) (q region head : ℕ) (s : DriverSide) → RingStands acts q (Some (region, s)) →
-        is_head (published_chains_out acts q) head ≡ true → RingStands (Queue (Chain_reclaimed q head) ∷ acts) q (Some (region, without_chain s head)) }
+        is_head (published_chains_out acts q) head ≡ true →
+        RingStands (Queue (Chain_reclaimed q head) ∷ acts) q (Some (region, without_chain s head)) }
 
     // The free descriptors are those that the acts leave free.
     ensures free { (acts : List Act) (q region : ℕ) (s : DriverSide) → RingStands acts q (Some (region, s)) →
         unowned_descriptors s ≡ model.free_descriptors s.place.size (chains_out acts q) }
 
     // Counts modulo 65,536 say as much as the whole ones, in a ring of at most 32,768.
-    ensures waiting { (acts : List Act) (q region : ℕ) (s : DriverSide) → RingStands acts q (Some (region, s)) → s.place.size ≤ 32768 →
+    ensures waiting { (acts : List Act) (q region : ℕ) (s : DriverSide) →
+        RingStands acts q (Some (region, s)) → s.place.size ≤ 32768 →
         waiting s ≡ length (published_chains_out acts q) }
-    ensures same { (acts : List Act) (q region : ℕ) (s : DriverSide) → RingStands acts q (Some (region, s)) → s.place.size ≤ 32768 →
+    ensures same { (acts : List Act) (q region : ℕ) (s : DriverSide) → RingStands acts q (Some (region, s)) →
+        s.place.size ≤ 32768 →
         s.added ≡ s.published → added_count acts q ≡ published_count acts q }
-    ensures waits { (acts : List Act) (q region id : ℕ) (s : DriverSide) → RingStands acts q (Some (region, s)) → s.place.size ≤ 32768 →
+    ensures waits { (acts : List Act) (q region id : ℕ) (s : DriverSide) →
+        RingStands acts q (Some (region, s)) → s.place.size ≤ 32768 →
         is_waiting s id ≡ is_head (published_chains_out acts q) id }
 
     // What is written is what the puts of the acts write.
-    ensures chain { (m : Memory) (r : RingPlace) (parts : List Part) (indices : List ℕ) → length indices ≡ length parts →
+    ensures chain { (m : Memory) (r : RingPlace) (parts : List Part) (indices : List ℕ) →
+        length indices ≡ length parts →
         after_puts m (descriptor_puts r parts indices) ≡ chain_written m r parts indices (length parts) }
     ensures index { (m : Memory) (s : DriverSide) (count : ℕ) → s.added ≡ count % 65536 →
         after_puts m (Driver (Driver_put (available_index_at s.place) (little_bytes 2 count)) ∷ []) ≡ with_index m s }
@@ -66,18 +74,26 @@ pub fn daemon_side()
         (first_used x acts q ≡ Ok s.from) × (side.position ≡ index_after (fetches acts q) s.from) }
     ensures begins { (x : Setting) (acts : List Act) (q from : ℕ) → PositionStands x acts q None →
         number16 (daemon_memory x acts) (used_index_at (queue_place acts q)) ≡ Ok from → from ≡ from % 65536 →
-        PositionStands x (Queue (Fetched q) ∷ acts) q (Some (record { place = queue_place acts q; position = next16 from; used = from })) }
+        PositionStands x (Queue (Fetched q) ∷ acts) q
+        (Some (record { place = queue_place acts q; position = next16 from; used = from })) }
     ensures goes_on { (x : Setting) (acts : List Act) (q : ℕ) (side : Side) → PositionStands x acts q (Some side) →
         PositionStands x (Queue (Fetched q) ∷ acts) q (Some (record side { position = next16 side.position })) }
 
     // The request in hand is kept as it was read.
-    ensures hand { (x : Setting) (acts : List Act) (q used head : ℕ) (chain : Chain) (bytes : List ℕ) → first_used x acts q ≡ Ok used →
-        number16 (daemon_memory x acts) (available_slot_at (queue_place acts q) (index_after (fetches acts q) used)) ≡ Ok head →
+    ensures hand { (x : Setting) (acts : List Act) (q used head : ℕ) (chain : Chain) (bytes : List ℕ) →
+        first_used x acts q ≡ Ok used →
+        number16 (daemon_memory x acts)
+        (available_slot_at (queue_place acts q) (index_after (fetches acts q) used)) ≡ Ok head →
         ending_of (trace_start (queue_place acts q) head (has_indirect acts)) (daemon_memory x acts) ≡ whole chain →
         readable_bytes (daemon_memory x acts) chain.parts ≡ Ok bytes →
-        HandStands x (Queue (Fetched q) ∷ acts) q (Some (record { head = chain.head; parts = chain.parts; writable = chain.writable; bytes = bytes })) None }
-    ensures executed { (x : Setting) (acts : List Act) (q status : ℕ) (bytes : List ℕ) (h : Hand) (ended : Option Execution) → HandStands x acts q (Some h) ended →
-        HandStands x (Queue (Executed q status bytes) ∷ acts) q (Some h) (Some (record { status = status; bytes = bytes })) }
-    ensures finished { (x : Setting) (acts : List Act) (q : ℕ) (side : Side) (hand : Option Hand) (ended : Option Execution) →
-        DaemonStands x acts q (Some side) hand ended → DaemonStands x (Queue (Finished q) ∷ acts) q (Some (record side { used = next16 side.used })) None ended }
+        HandStands x (Queue (Fetched q) ∷ acts) q
+        (Some (record { head = chain.head; parts = chain.parts; writable = chain.writable; bytes = bytes })) None }
+    ensures executed { (x : Setting) (acts : List Act) (q status : ℕ) (bytes : List ℕ) (h : Hand)
+        (ended : Option Execution) → HandStands x acts q (Some h) ended →
+        HandStands x (Queue (Executed q status bytes) ∷ acts) q (Some h)
+        (Some (record { status = status; bytes = bytes })) }
+    ensures finished { (x : Setting) (acts : List Act) (q : ℕ) (side : Side) (hand : Option Hand)
+        (ended : Option Execution) →
+        DaemonStands x acts q (Some side) hand ended →
+        DaemonStands x (Queue (Finished q) ∷ acts) q (Some (record side { used = next16 side.used })) None ended }
 {}

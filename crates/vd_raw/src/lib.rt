@@ -12,6 +12,3 @@ mod region;
 pub use ioctl::{Ioctl, ioctl_in};
 pub use message::{request_of, response_in};
 pub use region::{entry_of, info_of};
-
-#[cfg(test)]
-mod tests;

@@ -23,8 +23,10 @@ pub fn request_law()
     // a line on the device, and one on a queue of it
     ensures device { (x : Setting) (made : Creation) (seen : Seen) (step : DevStep) → AreOwned seen.acts made.queues →
         AreOwned ((dev_turn x made seen step).acts ++ seen.acts) made.queues }
-    ensures queue { (x : Setting) (made : Creation) (name : List ℕ) (seen : Seen) (failed : Bool) (step : QueueStep) → AreOwned seen.acts made.queues →
-        ((q : ℕ) (r : Ring) → ring_of seen.acts q ≡ Some r → HasOwnHeads seen.acts q) → AreOwned ((queue_turn x made name seen failed step).acts ++ seen.acts) made.queues }
+    ensures queue { (x : Setting) (made : Creation) (name : List ℕ) (seen : Seen) (failed : Bool)
+        (step : QueueStep) → AreOwned seen.acts made.queues →
+        ((q : ℕ) (r : Ring) → ring_of seen.acts q ≡ Some r → HasOwnHeads seen.acts q) →
+        AreOwned ((queue_turn x made name seen failed step).acts ++ seen.acts) made.queues }
     // acts of these kinds change nothing of it
     ensures quiet { (more acts : List Act) (n : ℕ) → list_all is_quiet more ≡ true →
         AreOwned acts n → AreOwned (more ++ acts) n }

@@ -54,9 +54,11 @@ fn add_on<T: Hears>(told: &mut T, memory: &mut Memory, held: &mut HeldDriver, pa
     requires ready { T.is_ready told.old }
     requires held { IsKept memory.old (Some held.old) }
     requires some { 0 < length parts.now }
-    ensures line { (x : Setting) (made : Creation) (acts : List Act) (m : PoolMemory) (q : ℕ) → Stands x acts memory.old m →
+    ensures line { (x : Setting) (made : Creation) (acts : List Act) (m : PoolMemory) (q : ℕ) →
+        Stands x acts memory.old m →
         RequestsStand acts q (Some held.old) → is_missing made q ≡ false →
-        Tells (λ said. T.heard told.old said told.new) (add_turn made acts q parts.now) (After x acts q memory.new m (Some held.new)) }
+        Tells (λ said. T.heard told.old said told.new) (add_turn made acts q parts.now)
+        (After x acts q memory.new m (Some held.new)) }
     ensures rest { memory.new ≡ record memory.old { domain = memory.new.domain } }
     ensures bounce { memory.new.domain.bounce ≡ memory.old.domain.bounce }
     ensures counts { SameCounts memory.old.domain memory.new.domain }
@@ -85,9 +87,11 @@ pub fn add<T: Hears>(
     requires ready { T.is_ready told.old }
     requires held { IsKept memory.old kept.old }
     requires some { 0 < length parts.now }
-    ensures line { (x : Setting) (made : Creation) (acts : List Act) (m : PoolMemory) (q : ℕ) → Stands x acts memory.old m →
+    ensures line { (x : Setting) (made : Creation) (acts : List Act) (m : PoolMemory) (q : ℕ) →
+        Stands x acts memory.old m →
         RequestsStand acts q kept.old → IsKnown made acts q queue.now →
-        Tells (λ said. T.heard told.old said told.new) (add_turn made acts q parts.now) (After x acts q memory.new m kept.new) }
+        Tells (λ said. T.heard told.old said told.new) (add_turn made acts q parts.now)
+        (After x acts q memory.new m kept.new) }
     ensures rest { memory.new ≡ record memory.old { domain = memory.new.domain } }
     ensures bounce { memory.new.domain.bounce ≡ memory.old.domain.bounce }
     ensures counts { SameCounts memory.old.domain memory.new.domain }

@@ -22,7 +22,8 @@ use vd_pool::Pool;
 /// Frees a buffer, where it is there.
 fn free_buffer(memory: &mut Memory, number: u64)
     ensures freed { (x : Setting) (acts : List Act) (m : PoolMemory) → Stands x acts memory.old m →
-        list_any (λ m. m.want.buffer == number) (live_mappings acts) ≡ false → Stands x (Driver (Freed number) ∷ acts) memory.new m }
+        list_any (λ m. m.want.buffer == number) (live_mappings acts) ≡ false →
+        Stands x (Driver (Freed number) ∷ acts) memory.new m }
     ensures rest { memory.new ≡ record memory.old { buffers = memory.new.buffers } }
 {
     if memory.buffers.len_of(number).is_some() {
@@ -33,7 +34,8 @@ fn free_buffer(memory: &mut Memory, number: u64)
 /// Frees the buffers that were made for a request.
 pub(crate) fn free_made(memory: &mut Memory, made: &Made)
     requires numbers { made.now.buffer + made.now.count < 2 ^ 64 }
-    ensures freed { (x : Setting) (acts : List Act) (m : PoolMemory) → Stands x acts memory.old m → IsLeft acts made.now →
+    ensures freed { (x : Setting) (acts : List Act) (m : PoolMemory) → Stands x acts memory.old m →
+        IsLeft acts made.now →
         Stands x (free_acts made.now.buffer made.now.count ++ acts) memory.new m }
     ensures rest { memory.new ≡ record memory.old { buffers = memory.new.buffers } }
 {
@@ -51,7 +53,8 @@ fn abandoned(memory: &mut Memory, pool: &mut Pool, driver: &mut BlkDriver) -> Op
     ensures none { (result ≡ None) ↔ (driver.old.pending ≡ []) }
     ensures state { driver.new ≡ without_pending (least_of driver.old.pending) driver.old }
     ensures unmapped { (x : Setting) (acts : List Act) → Stands x acts memory.old pool.old →
-        Stands x (unmap_acts (live_mappings acts) (option_map_or maps_in (least_of driver.old.pending) []) ++ acts) memory.new pool.new }
+        Stands x (unmap_acts (live_mappings acts) (option_map_or maps_in (least_of driver.old.pending) [])
+        ++ acts) memory.new pool.new }
     ensures rest { KeepsMemory memory.old memory.new pool.old pool.new }
     ensures maps { memory.new.domain.maps ≤ memory.old.domain.maps }
 {
@@ -72,7 +75,8 @@ fn abandon_least(memory: &mut Memory, pool: &mut Pool, driver: &mut BlkDriver) -
     ensures none { (result ≡ None) ↔ (driver.old.pending ≡ []) }
     ensures state { driver.new ≡ without_pending (least_of driver.old.pending) driver.old }
     ensures unmapped { (x : Setting) (acts : List Act) → Stands x acts memory.old pool.old →
-        Stands x (unmap_acts (live_mappings acts) (option_map_or maps_in (least_of driver.old.pending) []) ++ acts) memory.new pool.new }
+        Stands x (unmap_acts (live_mappings acts) (option_map_or maps_in (least_of driver.old.pending) [])
+        ++ acts) memory.new pool.new }
     ensures rest { KeepsMemory memory.old memory.new pool.old pool.new }
     ensures maps { memory.new.domain.maps ≤ memory.old.domain.maps }
 {
@@ -85,7 +89,8 @@ pub(crate) fn end_all(memory: &mut Memory, pool: &mut Pool, driver: &mut BlkDriv
     requires out { IsOut memory.old pool.old }
     requires owned { IsEndable memory.old pool.old driver.old.pending }
     requires room { memory.old.domain.maps < 2 ^ 62 }
-    ensures ended { (x : Setting) (acts : List Act) (n : ℕ) → Stands x acts memory.old pool.old → CanEnd acts driver.old.pending →
+    ensures ended { (x : Setting) (acts : List Act) (n : ℕ) → Stands x acts memory.old pool.old →
+        CanEnd acts driver.old.pending →
         ((id : ℕ) → n ≤ id → find (has_head id) driver.old.pending ≡ None) →
         Stands x (pending_end_acts (live_mappings acts) driver.old.pending n ++ acts) memory.new pool.new }
     ensures rest { KeepsMemory memory.old memory.new pool.old pool.new }

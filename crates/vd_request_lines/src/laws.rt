@@ -13,8 +13,11 @@ ghost use Rattle.vd_request_lines.specs.Stands.{RequestsStand, ring_in, pending_
 /// frees the ring's region; and some chain that is out has a request of a kind exactly where a pending one is of it.
 pub fn kept_requests()
     ensures start { (q : ℕ) → RequestsStand [] q None }
-    ensures stays { (q : ℕ) (acts done : List Act) (kept : Option Held) → list_all (leaves_ring q (ring_in kept)) acts ≡ true →
+    ensures stays { (q : ℕ) (acts done : List Act) (kept : Option Held) →
+        list_all (leaves_ring q (ring_in kept)) acts ≡ true →
         RequestsStand done q kept → RequestsStand (acts ++ done) q kept }
-    ensures pending { (passes : Option Request → Bool) → passes None ≡ false → (acts : List Act) (q : ℕ) (kept : Option Held) → RequestsStand acts q kept →
-        list_any (λ chain. passes chain.request) (chains_out acts q) ≡ list_any (λ p. passes (Some (request_in p))) (pending_held kept) }
+    ensures pending { (passes : Option Request → Bool) → passes None ≡ false →
+        (acts : List Act) (q : ℕ) (kept : Option Held) → RequestsStand acts q kept →
+        list_any (λ chain. passes chain.request) (chains_out acts q) ≡ list_any
+        (λ p. passes (Some (request_in p))) (pending_held kept) }
 {}

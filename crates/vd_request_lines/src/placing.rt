@@ -52,14 +52,19 @@ fn submitted(
     requires buffer { filing.now.buffer + 1 < 2 ^ 64 }
     ensures full { (result ≡ Err Full) ↔ (length (unowned_descriptors driver.old.ring) <
         needed_descriptors (has_feature filing.now.features 28) (asked_in filing.now.ask)) }
-    ensures no_space { result ≡ Err NoSpace → (x : Setting) (acts : List Act) → Stands x acts memory.old pool.old → has_range acts filing.now.buffer 0 17 ≡ true →
-        placed_mappings x (taken_slots acts) (maps acts) (wants_of (draft_of filing.now.ask filing.now.buffer filing.now.features)) ≡ None }
+    ensures no_space { result ≡ Err NoSpace → (x : Setting) (acts : List Act) →
+        Stands x acts memory.old pool.old → has_range acts filing.now.buffer 0 17 ≡ true →
+        placed_mappings x (taken_slots acts) (maps acts)
+        (wants_of (draft_of filing.now.ask filing.now.buffer filing.now.features)) ≡ None }
     ensures submitted { IfOk result (λ r.
-        IsSubmitted memory.old pool.old (draft_of filing.now.ask filing.now.buffer filing.now.features) driver.old driver.new r memory.new pool.new) }
+        IsSubmitted memory.old pool.old
+        (draft_of filing.now.ask filing.now.buffer filing.now.features) driver.old driver.new r memory.new pool.new) }
     ensures same { OnErr result (driver.new ≡ driver.old) }
     ensures untouched { result ≡ Err Full → (memory.new ≡ memory.old) × (pool.new ≡ pool.old) }
-    ensures filled { result ≢ Err Full → (x : Setting) (acts : List Act) → Stands x acts memory.old pool.old → has_range acts filing.now.buffer 0 17 ≡ true →
-        OnErr result (Stands x (Driver_act (Poked filing.now.buffer 0 (front_bytes filing.now.ask 0)) ∷ acts) memory.new pool.new) }
+    ensures filled { result ≢ Err Full → (x : Setting) (acts : List Act) → Stands x acts memory.old pool.old →
+        has_range acts filing.now.buffer 0 17 ≡ true →
+        OnErr result (Stands x (Driver_act
+        (Poked filing.now.buffer 0 (front_bytes filing.now.ask 0)) ∷ acts) memory.new pool.new) }
     ensures rest { KeepsMemory memory.old memory.new pool.old pool.new }
     ensures maps { memory.new.domain.maps ≤ memory.old.domain.maps + 4 }
 {
@@ -97,7 +102,8 @@ pub fn placed(
     requires in_reach { RingInReach (Some (ring_map memory.old.domain)) None driver.old.ring.place }
     requires asked { IsAsked ask.now }
     ensures none { (x : Setting) (acts : List Act) → Stands x acts memory.old pool.old →
-        IfOk result (λ found. found ≡ None → HasNoPlace x acts (draft_of ask.now (buffers acts) features) (length (unowned_descriptors driver.old.ring))) }
+        IfOk result (λ found. found ≡ None →
+        HasNoPlace x acts (draft_of ask.now (buffers acts) features) (length (unowned_descriptors driver.old.ring))) }
     ensures stays { (x : Setting) (acts : List Act) → Stands x acts memory.old pool.old →
         IsNotPlaced result → Stands x acts memory.new pool.new }
     ensures same { IsNotPlaced result → driver.new ≡ driver.old }

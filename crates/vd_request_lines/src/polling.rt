@@ -87,9 +87,12 @@ fn status_in(buffers: &Buffers, buffer: u64) -> u8
 fn end_request(memory: &mut Memory, made: Option<Made>) -> u8
     requires numbers { IfSome made (λ d. d.buffer + d.count < 2 ^ 64) }
     ensures none { made ≡ None → memory.new ≡ memory.old }
-    ensures status { IfSome made (λ d. (g : ℕ) (acts : List Act) → kept_buffers.Stands g acts memory.old.buffers → has_range acts d.buffer 16 1 ≡ true →
+    ensures status { IfSome made
+        (λ d. (g : ℕ) (acts : List Act) → kept_buffers.Stands g acts memory.old.buffers →
+        has_range acts d.buffer 16 1 ≡ true →
         result ≡ ram g acts d.buffer 16) }
-    ensures freed { IfSome made (λ d. (x : Setting) (acts : List Act) (m : PoolMemory) → Stands x acts memory.old m → IsLeft acts d →
+    ensures freed { IfSome made
+        (λ d. (x : Setting) (acts : List Act) (m : PoolMemory) → Stands x acts memory.old m → IsLeft acts d →
         Stands x (free_acts d.buffer d.count ++ acts) memory.new m) }
     ensures rest { memory.new ≡ record memory.old { buffers = memory.new.buffers } }
 {
@@ -176,8 +179,10 @@ fn poll_on<T: Hears>(
     requires out { IsOut memory.old pool.old }
     requires room { memory.old.domain.maps < 2 ^ 62 }
     ensures line { (x : Setting) (made : Creation) (acts : List Act) (q : ℕ) → Stands x acts memory.old pool.old →
-        RequestsStand acts q (Some held.old) → QueueOwned acts q → is_missing made q ≡ false → has_feature features 29 ≡ has_event_idx acts →
-        Tells (λ said. T.heard told.old said told.new) (poll_turn x made acts q) (After x acts q memory.new pool.new (Some held.new)) }
+        RequestsStand acts q (Some held.old) → QueueOwned acts q → is_missing made q ≡ false →
+        has_feature features 29 ≡ has_event_idx acts →
+        Tells (λ said. T.heard told.old said told.new) (poll_turn x made acts q)
+        (After x acts q memory.new pool.new (Some held.new)) }
     ensures rest { KeepsMemory memory.old memory.new pool.old pool.new }
     ensures maps { memory.new.domain.maps ≤ memory.old.domain.maps }
 {
@@ -207,7 +212,8 @@ pub fn poll<T: Hears>(
     requires room { memory.old.domain.maps < 2 ^ 62 }
     ensures line { (x : Setting) (made : Creation) (acts : List Act) (q : ℕ) → Stands x acts memory.old pool.old →
         RequestsStand acts q kept.old → QueueOwned acts q → IsKnown made acts q queue.now →
-        Tells (λ said. T.heard told.old said told.new) (poll_turn x made acts q) (After x acts q memory.new pool.new kept.new) }
+        Tells (λ said. T.heard told.old said told.new) (poll_turn x made acts q)
+        (After x acts q memory.new pool.new kept.new) }
     ensures rest { KeepsMemory memory.old memory.new pool.old pool.new }
     ensures maps { memory.new.domain.maps ≤ memory.old.domain.maps }
 {

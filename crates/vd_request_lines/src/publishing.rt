@@ -56,9 +56,11 @@ fn published(domain: &mut Domain, driver: &mut BlkDriver, event_idx: bool) -> Pu
 fn publish_on<T: Hears>(told: &mut T, memory: &mut Memory, held: &mut HeldDriver, event_idx: bool)
     requires ready { T.is_ready told.old }
     requires held { IsKept memory.old (Some held.old) }
-    ensures line { (x : Setting) (made : Creation) (acts : List Act) (m : PoolMemory) (q : ℕ) → Stands x acts memory.old m →
+    ensures line { (x : Setting) (made : Creation) (acts : List Act) (m : PoolMemory) (q : ℕ) →
+        Stands x acts memory.old m →
         RequestsStand acts q (Some held.old) → is_missing made q ≡ false → event_idx ≡ has_event_idx acts →
-        Tells (λ said. T.heard told.old said told.new) (publish_turn x made acts q) (After x acts q memory.new m (Some held.new)) }
+        Tells (λ said. T.heard told.old said told.new) (publish_turn x made acts q)
+        (After x acts q memory.new m (Some held.new)) }
     ensures rest { memory.new ≡ record memory.old { domain = memory.new.domain } }
     ensures bounce { memory.new.domain.bounce ≡ memory.old.domain.bounce }
     ensures counts { SameCounts memory.old.domain memory.new.domain }
@@ -83,9 +85,11 @@ pub fn publish<T: Hears>(
 )
     requires ready { T.is_ready told.old }
     requires held { IsKept memory.old kept.old }
-    ensures line { (x : Setting) (made : Creation) (acts : List Act) (m : PoolMemory) (q : ℕ) → Stands x acts memory.old m →
+    ensures line { (x : Setting) (made : Creation) (acts : List Act) (m : PoolMemory) (q : ℕ) →
+        Stands x acts memory.old m →
         RequestsStand acts q kept.old → IsKnown made acts q queue.now →
-        Tells (λ said. T.heard told.old said told.new) (publish_turn x made acts q) (After x acts q memory.new m kept.new) }
+        Tells (λ said. T.heard told.old said told.new) (publish_turn x made acts q)
+        (After x acts q memory.new m kept.new) }
     ensures rest { memory.new ≡ record memory.old { domain = memory.new.domain } }
     ensures bounce { memory.new.domain.bounce ≡ memory.old.domain.bounce }
     ensures counts { SameCounts memory.old.domain memory.new.domain }

@@ -34,7 +34,8 @@ fn allowed(kept: &Option<HeldDriver>, wanted: &RingWanted) -> Result<u16, Errno>
     ensures ok { IfOk result
         (λ size. (size ≡ wanted.now.size) × (is_ring_size size ≡ true)
         × (is_some wanted.now.queue.info ≡ true) × (kept.now ≡ None)) }
-    ensures err { (x : Setting) (made : Creation) (acts : List Act) (q : ℕ) → RequestsStand acts q kept.now → IsKnown made acts q wanted.now.queue →
+    ensures err { (x : Setting) (made : Creation) (acts : List Act) (q : ℕ) → RequestsStand acts q kept.now →
+        IsKnown made acts q wanted.now.queue →
         IfErr result (λ e. ring_turn x made acts q wanted.now.size ≡ refusal_turn e) }
 {
     if wanted.queue.info.is_none() {
@@ -101,9 +102,11 @@ pub fn ring<T: Hears>(
 ) -> Result<(), AllocError>
     requires ready { T.is_ready told.old }
     requires room { memory.old.domain.made < 2 ^ 62 }
-    ensures line { (x : Setting) (made : Creation) (acts : List Act) (m : PoolMemory) (q : ℕ) → Stands x acts memory.old m →
+    ensures line { (x : Setting) (made : Creation) (acts : List Act) (m : PoolMemory) (q : ℕ) →
+        Stands x acts memory.old m →
         RequestsStand acts q kept.old → IsKnown made acts q wanted.now.queue →
-        MayTell (λ said. T.heard told.old said told.new) (ring_turn x made acts q wanted.now.size) (After x acts q memory.new m kept.new) result }
+        MayTell (λ said. T.heard told.old said told.new) (ring_turn x made acts q wanted.now.size)
+        (After x acts q memory.new m kept.new) result }
     ensures rest { memory.new ≡ record memory.old { domain = memory.new.domain } }
     ensures bounce { memory.new.domain.bounce ≡ memory.old.domain.bounce }
     ensures counts { (memory.new.domain.maps ≡ memory.old.domain.maps)
@@ -126,8 +129,11 @@ fn drop_ring(memory: &mut Memory, pool: &mut Pool, held: &mut HeldDriver)
     requires held { IsHeld memory.old pool.old (Some held.old) }
     requires out { IsOut memory.old pool.old }
     requires room { memory.old.domain.maps < 2 ^ 62 }
-    ensures dropped { (x : Setting) (acts : List Act) (q : ℕ) → Stands x acts memory.old pool.old → RequestsStand acts q (Some held.old) → QueueOwned acts q →
-        Stands x ((region_end_acts (live_regions acts) held.old.region ++ requests_end_acts (live_mappings acts) (by_head (chains_out acts q) held.old.driver.ring.place.size)) ++ acts) memory.new pool.new }
+    ensures dropped { (x : Setting) (acts : List Act) (q : ℕ) → Stands x acts memory.old pool.old →
+        RequestsStand acts q (Some held.old) → QueueOwned acts q →
+        Stands x ((region_end_acts (live_regions acts) held.old.region ++ requests_end_acts
+        (live_mappings acts) (by_head (chains_out acts q) held.old.driver.ring.place.size))
+        ++ acts) memory.new pool.new }
     ensures rest { KeepsMemory memory.old memory.new pool.old pool.new }
     ensures maps { memory.new.domain.maps ≤ memory.old.domain.maps }
 {
@@ -150,7 +156,8 @@ pub fn unring<T: Hears>(
     requires room { memory.old.domain.maps < 2 ^ 62 }
     ensures line { (x : Setting) (made : Creation) (acts : List Act) (q : ℕ) → Stands x acts memory.old pool.old →
         RequestsStand acts q kept.old → QueueOwned acts q → IsKnown made acts q queue.now →
-        Tells (λ said. T.heard told.old said told.new) (unring_turn made acts q) (After x acts q memory.new pool.new kept.new) }
+        Tells (λ said. T.heard told.old said told.new) (unring_turn made acts q)
+        (After x acts q memory.new pool.new kept.new) }
     ensures rest { KeepsMemory memory.old memory.new pool.old pool.new }
     ensures maps { memory.new.domain.maps ≤ memory.old.domain.maps }
 {

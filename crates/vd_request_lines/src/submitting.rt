@@ -42,7 +42,8 @@ pub struct RequestWanted {
 fn tell_submitted<T: Hears>(told: &mut T, request: &Submitted, buffer: u64)
     requires { T.is_ready told.old }
     ensures { T.heard told.old (Done (Word tag.Head ∷ Number request.now.head ∷ Word tag.Idx ∷ Number request.now.idx
-        ∷ Word tag.Kick ∷ Number (if request.now.kick then 1 else 0) ∷ Word tag.Buf ∷ Number buffer ∷ Word tag.Map ∷ Number request.now.first_map ∷ [])) told.new }
+        ∷ Word tag.Kick ∷ Number (if request.now.kick then 1 else 0)
+        ∷ Word tag.Buf ∷ Number buffer ∷ Word tag.Map ∷ Number request.now.first_map ∷ [])) told.new }
 {
     told.fields(&[
         Item::Word(Tag::Head),
@@ -70,9 +71,12 @@ fn submit_on<T: Hears>(
     requires held { IsOut memory.old pool.old }
     requires room { memory.old.domain.maps + 4 < 2 ^ 62 }
     requires kept { IsUsed memory.old pool.old (Some held.old) }
-    ensures line { (x : Setting) (made : Creation) (acts : List Act) (q : ℕ) → Stands x acts memory.old pool.old → RequestsStand acts q (Some held.old) →
-        is_missing made q ≡ false → wanted.now.queue.features ≡ features_of (state_acts acts) → wanted.now.busy ≡ wants_made_buffer made acts wanted.now.form →
-        MayTell (λ said. T.heard told.old said told.new) (submit_turn x made acts q wanted.now.form) (After x acts q memory.new pool.new (Some held.new)) result }
+    ensures line { (x : Setting) (made : Creation) (acts : List Act) (q : ℕ) →
+        Stands x acts memory.old pool.old → RequestsStand acts q (Some held.old) →
+        is_missing made q ≡ false → wanted.now.queue.features ≡ features_of (state_acts acts) →
+        wanted.now.busy ≡ wants_made_buffer made acts wanted.now.form →
+        MayTell (λ said. T.heard told.old said told.new) (submit_turn x made acts q wanted.now.form)
+        (After x acts q memory.new pool.new (Some held.new)) result }
     ensures rest { KeepsMemory memory.old memory.new pool.old pool.new }
     ensures maps { memory.new.domain.maps ≤ memory.old.domain.maps + 4 }
 {
@@ -108,9 +112,11 @@ pub fn submit<T: Hears>(
     requires held { IsOut memory.old pool.old }
     requires room { memory.old.domain.maps + 4 < 2 ^ 62 }
     requires kept { IsUsed memory.old pool.old kept.old }
-    ensures line { (x : Setting) (made : Creation) (acts : List Act) (q : ℕ) → Stands x acts memory.old pool.old → RequestsStand acts q kept.old →
+    ensures line { (x : Setting) (made : Creation) (acts : List Act) (q : ℕ) →
+        Stands x acts memory.old pool.old → RequestsStand acts q kept.old →
         IsKnown made acts q wanted.now.queue → wanted.now.busy ≡ wants_made_buffer made acts wanted.now.form →
-        MayTell (λ said. T.heard told.old said told.new) (submit_turn x made acts q wanted.now.form) (After x acts q memory.new pool.new kept.new) result }
+        MayTell (λ said. T.heard told.old said told.new) (submit_turn x made acts q wanted.now.form)
+        (After x acts q memory.new pool.new kept.new) result }
     ensures rest { KeepsMemory memory.old memory.new pool.old pool.new }
     ensures maps { memory.new.domain.maps ≤ memory.old.domain.maps + 4 }
 {

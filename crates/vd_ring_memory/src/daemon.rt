@@ -15,7 +15,8 @@ pub struct DaemonMem<'a> {
     pub domain: &'a mut Domain,
     pub pool: &'a mut Pool,
     pub ghost out: { (page f : ℕ) → frame_of domain.now.bounce.frames page ≡ Some f → is_out pool.now f ≡ true },
-    pub ghost apart: { (p q f : ℕ) → frame_of domain.now.bounce.frames p ≡ Some f → frame_of domain.now.bounce.frames q ≡ Some f → p ≡ q },
+    pub ghost apart: { (p q f : ℕ) → frame_of domain.now.bounce.frames p ≡ Some f →
+        frame_of domain.now.bounce.frames q ≡ Some f → p ≡ q },
     pub ghost size: { pool.now.per_page ≡ domain.now.bounce.per_page },
     pub ghost reached: { ∥ IsReached domain.now pool.now ∥₁ },
 }
@@ -32,13 +33,15 @@ impl<'a> Mem for DaemonMem<'a> {
 
     ghost span = { λ _. None };
 
-    ghost keeps = { λ s t. (t.domain.ghost_name ≡ s.domain.ghost_name) × (t.pool.ghost_name ≡ s.pool.ghost_name) × IsAfterPuts s.domain.now s.pool.now t.domain.now t.pool.now };
+    ghost keeps = { λ s t. (t.domain.ghost_name ≡ s.domain.ghost_name)
+        × (t.pool.ghost_name ≡ s.pool.ghost_name) × IsAfterPuts s.domain.now s.pool.now t.domain.now t.pool.now };
 
     ghost told_ends = { λ s. tells _ _ (finite s.domain.now s.pool.now) };
 
     ghost span_ends = { λ _. tells_nothing _ };
 
-    ghost keeps_refl = { λ s. (refl, refl, after_none s.domain.now s.pool.now (record { out = s.out; apart = s.apart })) };
+    ghost keeps_refl = { λ s.
+        (refl, refl, after_none s.domain.now s.pool.now (record { out = s.out; apart = s.apart })) };
 
     ghost keeps_trans = { λ a b c h g. (g.0 ∙ h.0, g.1 ∙ h.1, after_more h.2 g.2) };
 

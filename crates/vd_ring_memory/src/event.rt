@@ -54,7 +54,8 @@ pub fn accept(
     requires reached { IsReached domain.old pool.old }
     ensures moved { OnOk result (ring.new ≡ record ring.old { position = next16 ring.old.position }) }
     ensures stays { OnErr result (ring.new ≡ ring.old) }
-    ensures puts { (x : Setting) (acts : List Act) → Stands x acts domain.old pool.old → event_idx ≡ has_event_idx acts →
+    ensures puts { (x : Setting) (acts : List Act) → Stands x acts domain.old pool.old →
+        event_idx ≡ has_event_idx acts →
         Accepts x acts (event_puts acts ring.old.place (next16 ring.old.position))
         (available_event_at ring.old.place) 2 domain.new pool.new result }
     ensures kept { Keeps domain.old.bounce.frames domain.new.bounce.frames pool.old pool.new }

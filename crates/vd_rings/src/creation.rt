@@ -54,11 +54,16 @@ pub fn made(alloc: Global, domain: &mut Domain, size: u16) -> Result<HeldRing, M
     requires room { domain.old.made < 2 ^ 62 }
     requires size { is_ring_size size ≡ true }
     ensures ok { (x : Setting) (acts : List Act) (m : PoolMemory) → Stands x acts domain.old m → IfOk result (λ held.
-        Stands x (Driver (Region_made (record { number = held.region; slot = held.ring.place.desc / 4096; len = ring_bytes size })) ∷ acts) domain.new m) }
+        Stands x (Driver (Region_made (record {
+          number = held.region;
+          slot = held.ring.place.desc / 4096;
+          len = ring_bytes size;
+        })) ∷ acts) domain.new m) }
     ensures ring { (x : Setting) (acts : List Act) (m : PoolMemory) → Stands x acts domain.old m → IfOk result (λ held.
         (held.region ≡ regions acts) × (held.ring ≡ side_of (ring_at size (held.ring.place.desc / 4096)))) }
     ensures place { (x : Setting) (acts : List Act) (m : PoolMemory) → Stands x acts domain.old m → IfOk result (λ held.
-        pages.place_of (taken_slots acts) (pages_of (ring_bytes size)) x.bounce x.iova ≡ Some (held.ring.place.desc / 4096)) }
+        pages.place_of (taken_slots acts) (pages_of (ring_bytes size)) x.bounce x.iova ≡ Some
+        (held.ring.place.desc / 4096)) }
     ensures full { (x : Setting) (acts : List Act) (m : PoolMemory) → Stands x acts domain.old m → result ≡ Err NoSpace
         → pages.place_of (taken_slots acts) (pages_of (ring_bytes size)) x.bounce x.iova ≡ None }
     ensures some { result ≢ Err Empty }

@@ -1,6 +1,6 @@
-//! Worked rows, each a script with the replies that are due, through `script_top`.
+//! Worked rows, each a script with the replies that are due, through `script_top`, and over a cache.
 //!
-//! It stands on `vd_top` and has tests alone. Expected replies are worked out by hand from the rules, never taken from
+//! It stands on `vd_top` and `vd_cached`, and has tests alone. Expected replies are worked out by hand from the rules, never taken from
 //! the program's own output.
 #![tactic(auto)]
 

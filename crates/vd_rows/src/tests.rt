@@ -1,6 +1,7 @@
 //! Worked rows and the ends of a run, in memory.
 
 mod areas;
+mod cached;
 mod control;
 mod edges;
 mod ends;
@@ -57,7 +58,8 @@ pub const SOUND: Outside<'static> = Outside {
     room: 262144,
 };
 
-fn words_of(alloc: Global, words: &[&str]) -> Result<Vec<String>, AllocError> {
+/// The words of a run.
+pub fn words_of(alloc: Global, words: &[&str]) -> Result<Vec<String>, AllocError> {
     let mut all = Vec::new(alloc);
     for word in words {
         all.push(String::from_str(alloc, word)?)?;

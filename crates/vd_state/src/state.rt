@@ -153,7 +153,8 @@ impl State {
     pub fn set_num(&mut self, index: u32, num: u32) -> Result<(), Errno>
         requires { GenerationCanRise self.old index }
         ensures does { (made : DeviceShape) (done : List StateAct) → Stands made done self.old →
-            Does made done (is_queue made index && may_have (acts.max_of done index) num) (acts.Num_set index num) result self.new }
+            Does made done (is_queue made index && may_have (acts.max_of done index) num)
+            (acts.Num_set index num) result self.new }
         ensures counts { (most : ℕ) → CountsWithin most self.old → CountsWithin (most + 1) self.new }
     {
         let queue = queue_at(&self.queues, index)?;
@@ -174,7 +175,8 @@ impl State {
     pub fn set_addr(&mut self, index: u32, desc: u64, driver: u64, device: u64) -> Result<(), Errno>
         requires { GenerationCanRise self.old index }
         ensures does { (made : DeviceShape) (done : List StateAct) → Stands made done self.old →
-            Does made done (is_queue made index && are_aligned desc driver device) (acts.Addr_set index desc driver device) result self.new }
+            Does made done (is_queue made index && are_aligned desc driver device)
+            (acts.Addr_set index desc driver device) result self.new }
         ensures counts { (most : ℕ) → CountsWithin most self.old → CountsWithin (most + 1) self.new }
     {
         let queue = queue_at(&self.queues, index)?;
@@ -231,9 +233,11 @@ impl State {
 
     /// How often what the queue describes was set anew or cleared; 0 where there is no such queue.
     pub fn generation(&self, index: u32) -> u64
-        ensures there { (made : DeviceShape) (done : List StateAct) → Stands made done self.now → is_queue made index ≡ true →
+        ensures there { (made : DeviceShape) (done : List StateAct) → Stands made done self.now →
+            is_queue made index ≡ true →
             result ≡ generation_of done index }
-        ensures missing { (made : DeviceShape) (done : List StateAct) → Stands made done self.now → is_queue made index ≡ false →
+        ensures missing { (made : DeviceShape) (done : List StateAct) → Stands made done self.now →
+            is_queue made index ≡ false →
             result ≡ 0 }
     {
         match queue_at(&self.queues, index) {
@@ -304,7 +308,8 @@ impl State {
     /// Sets or removes the callback of a queue's interrupt, or of the config space's.
     pub fn set_callback(&mut self, index: Option<u32>, on: bool) -> Result<(), Errno>
         ensures does { (made : DeviceShape) (done : List StateAct) → Stands made done self.old →
-            Does made done (is_queue_or_config made (subject index)) (acts.Callback_set (subject index) on) result self.new }
+            Does made done (is_queue_or_config made (subject index))
+            (acts.Callback_set (subject index) on) result self.new }
         ensures counts { (most : ℕ) → CountsWithin most self.old → CountsWithin most self.new }
     {
         match index {
@@ -334,7 +339,8 @@ impl State {
     pub fn inject(&mut self, index: Option<u32>) -> Result<(), Errno>
         requires { InterruptsCanRise self.old index }
         ensures does { (made : DeviceShape) (done : List StateAct) → Stands made done self.old →
-            Does made done (is_queue_or_config made (subject index) && is_driver_ok done) (acts.Injected (subject index)) result self.new }
+            Does made done (is_queue_or_config made (subject index) && is_driver_ok done)
+            (acts.Injected (subject index)) result self.new }
         ensures counts { (most : ℕ) → CountsWithin most self.old → CountsWithin (most + 1) self.new }
     {
         if !is_driven(self.status) {

@@ -82,10 +82,13 @@ pub fn run<S: Source, K: Sink, I: Image>(
     requires { AreFit sizes }
     ensures stopped { (text : List ℕ) → S.left source.old ≡ Some text →
         StopsBy text (stop_of_status result.status) result.line result.lines_done (S.left source.new) }
-    ensures written { (x : Setting) (text : List ℕ) → IsSized x sizes → x.sectors ≡ I.size disk.old → S.left source.old ≡ Some text →
+    ensures written { (x : Setting) (text : List ℕ) → IsSized x sizes → x.sectors ≡ I.size disk.old →
+        S.left source.old ≡ Some text →
         (executes text ≡ true → IsImage x [] (I.size disk.old) (I.content disk.old)) →
-        WritesBy x text result.disk_failures (stop_of_status result.status) result.lines_done (K.held sink.old) (K.held sink.new) }
-    ensures image { (x : Setting) (text : List ℕ) → IsSized x sizes → S.left source.old ≡ Some text → IsImage x [] (I.size disk.old) (I.content disk.old) →
+        WritesBy x text result.disk_failures (stop_of_status result.status) result.lines_done (K.held sink.old)
+        (K.held sink.new) }
+    ensures image { (x : Setting) (text : List ℕ) → IsSized x sizes → S.left source.old ≡ Some text →
+        IsImage x [] (I.size disk.old) (I.content disk.old) →
         ImageAt x text result.disk_failures (stop_of_status result.status) result.lines_done
         (I.size disk.new) (shown I.content I.flushes disk.old) (shown I.content I.flushes disk.new) }
     ensures failures { (text : List ℕ) → S.left source.old ≡ Some text →

@@ -176,8 +176,10 @@ impl Player {
         requires reached { IsReached self.old.engine }
         requires disk { I.size disk.old ≡ self.old.engine.sectors }
         ensures answered { MatchResult result
-            (λ _. Answered (Some (Some step.now)) lines self.old self.new (K.held sink.old) (K.held sink.new) (I.size disk.old) (shown I.content I.flushes disk.old) (shown I.content I.flushes disk.new))
-            (λ p. StoppedBy p.stop p.lines (Some (Some step.now)) lines self.old self.new (K.held sink.old) (K.held sink.new)
+            (λ _. Answered (Some (Some step.now)) lines self.old self.new (K.held sink.old) (K.held sink.new)
+            (I.size disk.old) (shown I.content I.flushes disk.old) (shown I.content I.flushes disk.new))
+            (λ p. StoppedBy p.stop p.lines (Some (Some step.now)) lines self.old self.new (K.held sink.old)
+            (K.held sink.new)
             (I.size disk.old) (shown I.content I.flushes disk.old) (shown I.content I.flushes disk.new)) }
         ensures reached { IsReached self.new.engine }
         ensures asked { self.new.engine.asked ≤ self.old.engine.asked + 1 }

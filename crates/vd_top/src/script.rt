@@ -78,7 +78,8 @@ impl Responder {
         ensures answered { MatchResult result
             (λ _. Answered (reading line.now) lines self.old.player self.new.player (K.held sink.old) (K.held sink.new)
             (I.size disk.old) (shown I.content I.flushes disk.old) (shown I.content I.flushes disk.new))
-            (λ p. StoppedBy p.stop p.lines (reading line.now) lines self.old.player self.new.player (K.held sink.old) (K.held sink.new)
+            (λ p. StoppedBy p.stop p.lines (reading line.now) lines self.old.player self.new.player
+            (K.held sink.old) (K.held sink.new)
             (I.size disk.old) (shown I.content I.flushes disk.old) (shown I.content I.flushes disk.new)) }
         ensures reached { IsReached self.new.player.engine }
         ensures asked { self.new.player.engine.asked ≤ self.old.player.engine.asked + 1 }
@@ -135,7 +136,8 @@ pub fn play<S: Source, K: Sink, I: Image>(
     requires failures { responder.old.player.failures.items ≡ [] }
     requires disk { I.size disk.old ≡ responder.old.player.engine.sectors }
     ensures played { (text : List ℕ) → S.left source.old ≡ Some text →
-        Played text result.stop result.lines responder.old.player.engine responder.new.player (S.left source.new) (K.held sink.old) (K.held sink.new)
+        Played text result.stop result.lines responder.old.player.engine responder.new.player
+        (S.left source.new) (K.held sink.old) (K.held sink.new)
         (I.size disk.old) (shown I.content I.flushes disk.old) (shown I.content I.flushes disk.new) }
     ensures untouched { (text : List ℕ) → S.left source.old ≡ Some text → executes text ≡ false →
         disk.new ≡ disk.old }

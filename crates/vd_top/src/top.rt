@@ -42,7 +42,8 @@ pub fn script_top<S: Source, K: Sink, I: Image>(
         IsGiven (map string_bytes words.now.items) sizes (S.left source.old) text →
         HasSizes x sizes → x.sectors ≡ I.size disk.old →
         (executes text ≡ true → IsImage x [] (I.size disk.old) (I.content disk.old)) →
-        WritesBy x text result.disk_failures (stop_of_status result.status) result.lines_done (K.held sink.old) (K.held sink.new) }
+        WritesBy x text result.disk_failures (stop_of_status result.status) result.lines_done (K.held sink.old)
+        (K.held sink.new) }
 
     // The laws of the run whose replies these are: what a daemon read and where it came from, what changed a
     // driver's memory, what became of each message, that no other device's steps show, what goes over a mapping

@@ -23,7 +23,8 @@ impl Model for Gathered {
 
     ghost view = { λ g. g.parts };
 
-    ghost invariant = { λ g. (g.readable ≡ readable_len g.parts) × (g.writable ≡ writable_len g.parts) × (g.any_writable ≡ list_any (λ q. q.writable) g.parts) × (g.readable + g.writable ≤ 16777216) };
+    ghost invariant = { λ g. (g.readable ≡ readable_len g.parts) × (g.writable ≡ writable_len g.parts)
+        × (g.any_writable ≡ list_any (λ q. q.writable) g.parts) × (g.readable + g.writable ≤ 16777216) };
 }
 
 impl Gathered {

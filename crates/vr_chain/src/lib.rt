@@ -7,8 +7,6 @@
 mod descriptor;
 mod error;
 mod gathered;
-#[cfg(test)]
-mod tests;
 mod walker;
 
 pub use error::WalkError;

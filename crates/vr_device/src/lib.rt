@@ -6,8 +6,6 @@
 
 mod error;
 mod ring;
-#[cfg(test)]
-mod tests;
 
 pub use error::PopError;
 pub use ring::DeviceRing;

@@ -109,7 +109,8 @@ impl DeviceRing {
         ensures stays { OnErr result (self.new ≡ self.old) }
 
         ensures event { event_idx ≡ true → ForSome (M.told mem.old) (λ m.
-            Stores m (available_event_at self.old.place) (little_bytes 2 (next16 self.old.position)) result (M.told mem.new)) }
+            Stores m (available_event_at self.old.place) (little_bytes 2 (next16 self.old.position)) result
+            (M.told mem.new)) }
         ensures in_reach { RingInReach (M.told mem.old) (M.span mem.old) self.old.place → IsOk result }
         ensures no_event { event_idx ≡ false → IsOk result }
         ensures no_event_told { event_idx ≡ false → M.told mem.new ≡ M.told mem.old }

@@ -8,8 +8,6 @@ mod completion;
 mod free;
 mod ring;
 pub mod table;
-#[cfg(test)]
-mod tests;
 
 pub use completion::{Completion, UsedError};
 pub use ring::{AddError, DriverRing, Published};

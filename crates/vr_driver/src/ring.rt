@@ -55,9 +55,17 @@ impl Model for DriverRing {
 
     ghost Value = { DriverSide };
 
-    ghost view = { λ r. record { place = r.place; owners = r.owners.items; announced = r.announced.items; added = r.added; published = r.published; reclaimed = r.reclaimed } };
+    ghost view = { λ r. record {
+      place = r.place;
+      owners = r.owners.items;
+      announced = r.announced.items;
+      added = r.added;
+      published = r.published;
+      reclaimed = r.reclaimed;
+    } };
 
-    ghost invariant = { λ r. (vec_len r.owners ≡ r.place.size) × (vec_len r.announced ≡ r.place.size) × (vec_len r.picked ≡ r.place.size) × (0 < r.place.size) × (r.place.size ≤ 32768) };
+    ghost invariant = { λ r. (vec_len r.owners ≡ r.place.size) × (vec_len r.announced ≡ r.place.size)
+        × (vec_len r.picked ≡ r.place.size) × (0 < r.place.size) × (r.place.size ≤ 32768) };
 }
 
 /// Whether the device asks for a kick when the available index went from `old` to `new` (virtio 1.2, section 2.7.10).

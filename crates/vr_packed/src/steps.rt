@@ -67,7 +67,8 @@ pub fn write_chain(slots: &mut Slots, place: u64, id: u16, parts: &[Part])
 /// Reads the chain that stands from a place on behind what is in `into`, and answers its id.
 pub fn read_chain(slots: &Slots, place: u64, into: &mut Parts) -> Result<u16, AllocError>
     requires { place + length slots.now < 2 ^ 64 }
-    ensures { (id : ℕ) (parts : List Part) → 0 < length parts → length parts ≤ length slots.now → ChainLies slots.now place id parts
+    ensures { (id : ℕ) (parts : List Part) → 0 < length parts → length parts ≤ length slots.now →
+        ChainLies slots.now place id parts
         → IfOk result (λ found. (found ≡ id) × (into.new ≡ into.old ++ parts)) }
 {
     let mut id = 0;

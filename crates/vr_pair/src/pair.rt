@@ -37,7 +37,8 @@ pub trait Pair {
         requires bytes { bytes_in parts.now ≤ chain_limit }
         requires room { placed self.old < 2 ^ 62 }
         ensures lists { (q : QueueLists) → stands self.old q → Adds q parts.now result (stands self.new) }
-        ensures placed { placed self.new ≡ (if is_ok result then placed self.old + length parts.now else placed self.old) };
+        ensures placed { placed self.new ≡
+            (if is_ok result then placed self.old + length parts.now else placed self.old) };
 
     /// Takes the chain that has waited longest: its number, and its parts in place of those in `into`.
     fn next(&mut self, into: &mut Parts) -> Result<Option<u64>, AllocError>

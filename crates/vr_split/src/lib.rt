@@ -9,8 +9,6 @@ mod flags;
 pub mod mem;
 pub mod reach;
 pub mod ring;
-#[cfg(test)]
-mod tests;
 pub mod vec_mem;
 
 pub use flags::{AvailableFlags, UsedFlags};

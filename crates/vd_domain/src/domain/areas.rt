@@ -91,7 +91,8 @@ impl Domain {
             (λ _. (may_register x acts uaddr iova size ≡ true) × (registration_of acts ≡ None)
             × Stands x (Node (Registered (uaddr - area_start) (bounce_size x)) ∷ acts) self.new pool.new)
             (λ e. ((e ≡ Errno.Inval) × (may_register x acts uaddr iova size ≡ false))
-            ⊎ ((e ≡ Errno.Exist) × (may_register x acts uaddr iova size ≡ true) × (is_some (registration_of acts) ≡ true))) }
+            ⊎ ((e ≡ Errno.Exist) × (may_register x acts uaddr iova size ≡ true)
+            × (is_some (registration_of acts) ≡ true))) }
         ensures err { OnErr result ((self.new ≡ self.old) × (pool.new ≡ pool.old)) }
         ensures counts { SameCounts self.old self.new }
     {
@@ -112,9 +113,11 @@ impl Domain {
         requires size { pool.old.per_page ≡ self.old.bounce.per_page }
         ensures kept { Keeps self.old.bounce.frames self.new.bounce.frames pool.old pool.new }
         ensures ok { (x : Setting) (acts : List Act) → Stands x acts self.old pool.old → MatchResult result
-            (λ _. (is_some (registration_of acts) ≡ true) × (iova ≡ 0) × (size ≡ bounce_size x) × Stands x (Node Deregistered ∷ acts) self.new pool.new)
+            (λ _. (is_some (registration_of acts) ≡ true) × (iova ≡ 0) × (size ≡ bounce_size x)
+            × Stands x (Node Deregistered ∷ acts) self.new pool.new)
             (λ e. ((e ≡ Errno.Noent) × (registration_of acts ≡ None))
-            ⊎ ((e ≡ Errno.Inval) × (is_some (registration_of acts) ≡ true) × (((iova == 0) && (size == bounce_size x)) ≡ false))) }
+            ⊎ ((e ≡ Errno.Inval) × (is_some (registration_of acts) ≡ true)
+            × (((iova == 0) && (size == bounce_size x)) ≡ false))) }
         ensures err { OnErr result ((self.new ≡ self.old) × (pool.new ≡ pool.old)) }
         ensures counts { SameCounts self.old self.new }
     {

@@ -51,8 +51,10 @@ impl Domain {
         requires text { length bytes.now ≡ bytes_of wants.now }
         requires made { self.old.maps + length wants.now < 2 ^ 62 }
         ensures kept { Keeps self.old.bounce.frames self.new.bounce.frames pool.old pool.new }
-        ensures ok { (x : Setting) (acts : List Act) (ms : List Streaming) → Stands x acts self.old pool.old → AreOf x.per_page acts wants.now bytes.now
-            → placed_mappings x (taken_slots acts) (maps acts) wants.now ≡ Some ms → OnOk result (Stands x (map_acts ms ++ acts) self.new pool.new) }
+        ensures ok { (x : Setting) (acts : List Act) (ms : List Streaming) → Stands x acts self.old pool.old →
+            AreOf x.per_page acts wants.now bytes.now
+            → placed_mappings x (taken_slots acts) (maps acts) wants.now ≡ Some ms →
+            OnOk result (Stands x (map_acts ms ++ acts) self.new pool.new) }
         ensures place { (x : Setting) (acts : List Act) → Stands x acts self.old pool.old → IfOk result (λ n.
             (n ≡ maps acts) × (is_some (placed_mappings x (taken_slots acts) (maps acts) wants.now) ≡ true)) }
         ensures full { (x : Setting) (acts : List Act) → Stands x acts self.old pool.old → result ≡ Err MapError.NoSpace
@@ -125,10 +127,15 @@ fn book_all(
     requires end { low.old.«end» ≤ 65536 }
     ensures given { OnOk result (AreGiven per_page low.old mappings.old.made wants.now booked.new low.new) }
     ensures numbered { OnOk result (mappings.new
-        ≡ record { entries = mappings.old.entries ++ entries_of wants.now booked.new; made = mappings.old.made + length wants.now }) }
+        ≡ record {
+          entries = mappings.old.entries ++ entries_of wants.now booked.new;
+          made = mappings.old.made + length wants.now;
+        }) }
     ensures spare { OnOk result (frames + pages_met booked.new ≤ pool.new.spare) }
-    ensures full { result ≡ Err MapError.NoSpace → (x : Setting) (holds : List Holding) (held : List Slots) → x.per_page ≡ low.old.first → x.bounce ≡ low.old.«end»
-        → AreTaken low.old mappings.old.made holds → IsSeen low.old holds held → placed_mappings x held mappings.old.made wants.now ≡ None }
+    ensures full { result ≡ Err MapError.NoSpace → (x : Setting) (holds : List Holding) (held : List Slots) →
+        x.per_page ≡ low.old.first → x.bounce ≡ low.old.«end»
+        → AreTaken low.old mappings.old.made holds → IsSeen low.old holds held →
+        placed_mappings x held mappings.old.made wants.now ≡ None }
     ensures empty { result ≢ Err MapError.Empty }
     ensures grows { Grows pool.old pool.new }
     ensures err { OnErr result ((low.new ≡ low.old) × (mappings.new ≡ mappings.old)) }
@@ -174,11 +181,14 @@ fn show_all(
     requires spare { pages_met booked.now ≤ pool.old.spare }
     ensures kept { Keeps bounce.old.frames bounce.new.frames pool.old pool.new }
     ensures page { bounce.new.per_page ≡ bounce.old.per_page }
-    ensures fit { (h : Held) (low high after : Space) → h.bounce ≡ bounce.old → IsFit h low high uses.old → AreGiven h.bounce.per_page low h.maps wants.now booked.now after
+    ensures fit { (h : Held) (low high after : Space) → h.bounce ≡ bounce.old → IsFit h low high uses.old →
+        AreGiven h.bounce.per_page low h.maps wants.now booked.now after
         → IsFit (with_mappings h bounce.new (streamings wants.now booked.now)) after high uses.new }
-    ensures stands { (h : Held) (low high after : Space) → h.bounce ≡ bounce.old → IsFit h low high uses.old → AreGiven h.bounce.per_page low h.maps wants.now booked.now after
+    ensures stands { (h : Held) (low high after : Space) → h.bounce ≡ bounce.old → IsFit h low high uses.old →
+        AreGiven h.bounce.per_page low h.maps wants.now booked.now after
         → (x : Setting) (acts : List Act) → Stands x acts h pool.old → AreOf x.per_page acts wants.now bytes.now
-        → Stands x (map_acts (streamings wants.now booked.now) ++ acts) (with_mappings h bounce.new (streamings wants.now booked.now)) pool.new }
+        → Stands x (map_acts (streamings wants.now booked.now) ++ acts)
+        (with_mappings h bounce.new (streamings wants.now booked.now)) pool.new }
 {
     let (want, wants) = match wants.split_first() {
         Some(parts) => parts,

@@ -39,7 +39,8 @@ impl Domain {
         ensures ok { (x : Setting) (acts : List Act) (m : PoolMemory) → Stands x acts self.old m
             → IfOk result (λ r. Stands x (Driver (Region_made (coherent_made r len)) ∷ acts) self.new m) }
         ensures place { (x : Setting) (acts : List Act) (m : PoolMemory) → Stands x acts self.old m → IfOk result (λ r.
-            (r.number ≡ regions acts) × (r.iova ≡ 4096 * (r.iova / 4096)) × (place_of (taken_slots acts) (pages_of len) x.bounce x.iova ≡ Some (r.iova / 4096))) }
+            (r.number ≡ regions acts) × (r.iova ≡ 4096 * (r.iova / 4096))
+            × (place_of (taken_slots acts) (pages_of len) x.bounce x.iova ≡ Some (r.iova / 4096))) }
         ensures full { (x : Setting) (acts : List Act) (m : PoolMemory) → Stands x acts self.old m → 0 < len
             → result ≡ Err MapError.NoSpace ↔ (place_of (taken_slots acts) (pages_of len) x.bounce x.iova ≡ None) }
         ensures empty { result ≡ Err MapError.Empty ↔ (len ≡ 0) }
@@ -76,7 +77,8 @@ impl Domain {
     /// Ends a coherent region.
     pub fn free_coherent(&mut self, number: u64) -> Result<(), NotLive>
         ensures none { IsErr result ↔ (coherent_of self.old number ≡ None) }
-        ensures ok { (x : Setting) (acts : List Act) (m : PoolMemory) (r : Coherent) → coherent_of self.old number ≡ Some r → Stands x acts self.old m
+        ensures ok { (x : Setting) (acts : List Act) (m : PoolMemory) (r : Coherent) →
+            coherent_of self.old number ≡ Some r → Stands x acts self.old m
             → Stands x (Driver (Region_freed r) ∷ acts) self.new m }
         ensures absent { (r : Coherent) (p : ℕ) → coherent_of self.old number ≡ Some r →
             has_slot (bounce_slots self.old + p) r ≡ true →
@@ -99,7 +101,8 @@ impl Domain {
     pub fn undo_coherent(&mut self, number: u64)
         requires live { is_some (coherent_of self.old number) ≡ true }
         requires last { number + 1 ≡ self.old.made }
-        ensures undone { (x : Setting) (acts : List Act) (m : PoolMemory) (r : Coherent) → coherent_of self.old number ≡ Some r
+        ensures undone { (x : Setting) (acts : List Act) (m : PoolMemory) (r : Coherent) →
+            coherent_of self.old number ≡ Some r
             → Stands x (Driver (Region_made r) ∷ acts) self.old m → Stands x acts self.new m }
         ensures bounce { self.new.bounce ≡ self.old.bounce }
         ensures counts { (self.new.maps ≡ self.old.maps) × (self.new.made + 1 ≡ self.old.made) }
@@ -154,7 +157,8 @@ impl Domain {
     pub fn lookup(&self, range: Range) -> Result<Region, Errno>
         ensures found { (x : Setting) (acts : List Act) (m : PoolMemory) → Stands x acts self.now m → MatchResult result
             (λ r. (range.start ≤ range.last) × (first_region (daemon_regions x acts) range.start range.last ≡ Some r))
-            (λ e. (e ≡ Errno.Inval) × ((range.last < range.start) ⊎ (first_region (daemon_regions x acts) range.start range.last ≡ None))) }
+            (λ e. (e ≡ Errno.Inval)
+            × ((range.last < range.start) ⊎ (first_region (daemon_regions x acts) range.start range.last ≡ None))) }
     {
         if range.last < range.start {
             return Err(Errno::Inval);
@@ -248,10 +252,12 @@ fn give_back(
     requires taken { 0 < taken_at high.old region.slot }
     ensures kept { Keeps shared.old.frames shared.new.frames store.old store.new }
     ensures bytes { (a : ℕ) → value shared.new store.new (b.Iova a)
-        ≡ (if is_within (region.slot - bounce.now.per_page * length bounce.now.frames) (pages_of region.len) (a / page_size shared.old)
+        ≡ (if is_within (region.slot - bounce.now.per_page * length bounce.now.frames) (pages_of region.len)
+        (a / page_size shared.old)
         then 0 else value shared.old store.old (b.Iova a)) }
     ensures frames { (p : ℕ) → is_some (frame_of shared.new.frames p)
-        ≡ (not (is_within (region.slot - bounce.now.per_page * length bounce.now.frames) (pages_of region.len) p) && is_some (frame_of shared.old.frames p)) }
+        ≡ (not (is_within (region.slot - bounce.now.per_page * length bounce.now.frames)
+        (pages_of region.len) p) && is_some (frame_of shared.old.frames p)) }
     ensures same { SameShape shared.old shared.new }
     ensures space { (high.new.first ≡ high.old.first) × (high.new.«end» ≡ high.old.«end»)
         × ((q : ℕ) → taken_at high.new q ≡ (if q == region.slot then 0 else taken_at high.old q)) }

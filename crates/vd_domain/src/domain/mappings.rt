@@ -32,10 +32,12 @@ impl Domain {
         requires text { length bytes.now ≡ want.len }
         requires made { self.old.maps < 2 ^ 62 }
         ensures kept { Keeps self.old.bounce.frames self.new.bounce.frames pool.old pool.new }
-        ensures ok { (x : Setting) (acts : List Act) → Stands x acts self.old pool.old → IsOf x.per_page acts want bytes.now
+        ensures ok { (x : Setting) (acts : List Act) → Stands x acts self.old pool.old →
+            IsOf x.per_page acts want bytes.now
             → IfOk result (λ m. Stands x (Driver (Mapped (streaming_of m want)) ∷ acts) self.new pool.new) }
         ensures place { (x : Setting) (acts : List Act) → Stands x acts self.old pool.old → IfOk result (λ m.
-            (m.number ≡ maps acts) × (m.iova ≡ 4096 * (m.iova / 4096)) × (place_of (taken_slots acts) (pages_of want.len) x.per_page x.bounce ≡ Some (m.iova / 4096))) }
+            (m.number ≡ maps acts) × (m.iova ≡ 4096 * (m.iova / 4096))
+            × (place_of (taken_slots acts) (pages_of want.len) x.per_page x.bounce ≡ Some (m.iova / 4096))) }
         ensures full { (x : Setting) (acts : List Act) → Stands x acts self.old pool.old → result ≡ Err MapError.NoSpace
             → place_of (taken_slots acts) (pages_of want.len) x.per_page x.bounce ≡ None }
         ensures empty { result ≡ Err MapError.Empty ↔ (want.len ≡ 0) }
@@ -90,9 +92,11 @@ impl Domain {
         requires room { (m : Streaming) → mapping_of self.old number ≡ Some m → length out.old ≡ m.want.len }
         ensures kept { Keeps self.old.bounce.frames self.new.bounce.frames pool.old pool.new }
         ensures none { IsErr result ↔ (mapping_of self.old number ≡ None) }
-        ensures ok { (x : Setting) (acts : List Act) (m : Streaming) → mapping_of self.old number ≡ Some m → Stands x acts self.old pool.old
+        ensures ok { (x : Setting) (acts : List Act) (m : Streaming) → mapping_of self.old number ≡ Some m →
+            Stands x acts self.old pool.old
             → Stands x (Driver (Unmapped m) ∷ acts) self.new pool.new }
-        ensures given { (x : Setting) (acts : List Act) (m : Streaming) → mapping_of self.old number ≡ Some m → Stands x acts self.old pool.old
+        ensures given { (x : Setting) (acts : List Act) (m : Streaming) → mapping_of self.old number ≡ Some m →
+            Stands x acts self.old pool.old
             → is_from_device m.want.dir ≡ true → out.new ≡ bus_bytes x.per_page acts (iova_of m) m.want.len }
         ensures left { (m : Streaming) → mapping_of self.old number ≡ Some m →
             is_from_device m.want.dir ≡ false → out.new ≡ out.old }
@@ -129,8 +133,10 @@ impl Domain {
         ensures not_live { result ≡ Err SyncError.NotLive ↔ (mapping_of self.old number ≡ None) }
         ensures wrong { (m : Streaming) → mapping_of self.old number ≡ Some m →
             result ≡ Err SyncError.WrongDir ↔ (is_to_device m.want.dir ≡ false) }
-        ensures ok { (x : Setting) (acts : List Act) (m : Streaming) → mapping_of self.old number ≡ Some m → Stands x acts self.old pool.old
-            → IsOf x.per_page acts m.want bytes.now → OnOk result (Stands x (Driver (Synced_device m) ∷ acts) self.new pool.new) }
+        ensures ok { (x : Setting) (acts : List Act) (m : Streaming) → mapping_of self.old number ≡ Some m →
+            Stands x acts self.old pool.old
+            → IsOf x.per_page acts m.want bytes.now →
+            OnOk result (Stands x (Driver (Synced_device m) ∷ acts) self.new pool.new) }
         ensures err { OnErr result ((self.new ≡ self.old) × (pool.new ≡ pool.old)) }
         ensures counts { SameCounts self.old self.new }
     {
@@ -158,9 +164,11 @@ impl Domain {
         ensures not_live { result ≡ Err SyncError.NotLive ↔ (mapping_of self.old number ≡ None) }
         ensures wrong { (m : Streaming) → mapping_of self.old number ≡ Some m →
             result ≡ Err SyncError.WrongDir ↔ (is_from_device m.want.dir ≡ false) }
-        ensures ok { (x : Setting) (acts : List Act) (m : Streaming) → mapping_of self.old number ≡ Some m → Stands x acts self.old pool.old
+        ensures ok { (x : Setting) (acts : List Act) (m : Streaming) → mapping_of self.old number ≡ Some m →
+            Stands x acts self.old pool.old
             → Stands x (Driver (Synced_cpu m) ∷ acts) self.new pool.new }
-        ensures given { (x : Setting) (acts : List Act) (m : Streaming) → mapping_of self.old number ≡ Some m → Stands x acts self.old pool.old
+        ensures given { (x : Setting) (acts : List Act) (m : Streaming) → mapping_of self.old number ≡ Some m →
+            Stands x acts self.old pool.old
             → OnOk result (out.new ≡ bus_bytes x.per_page acts (iova_of m) m.want.len) }
         ensures left { OnErr result (out.new ≡ out.old) }
         ensures same { (self.new ≡ self.old) × (pool.new ≡ pool.old) }

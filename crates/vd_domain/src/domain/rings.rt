@@ -20,7 +20,8 @@ impl Domain {
     /// Fills a slice from coherent memory, or answers the first address that lies in no coherent region.
     pub fn ring_load(&self, at: u64, out: &mut [u8]) -> Result<(), Bus>
         ensures ok { (x : Setting) (acts : List Act) (m : PoolMemory) → Stands x acts self.now m → MatchResult result
-            (λ _. (first_failing (is_coherent acts) at (length out.old) ≡ None) × (out.new ≡ bus_bytes x.per_page acts at (length out.old)))
+            (λ _. (first_failing (is_coherent acts) at (length out.old) ≡ None)
+            × (out.new ≡ bus_bytes x.per_page acts at (length out.old)))
             (λ bus. first_failing (is_coherent acts) at (length out.old) ≡ Some bus.at) }
         ensures left { OnErr result (out.new ≡ out.old) }
     {
@@ -36,7 +37,8 @@ impl Domain {
     /// region and writes none.
     pub fn ring_store(&mut self, at: u64, bytes: &[u8]) -> Result<(), Bus>
         ensures ok { (x : Setting) (acts : List Act) (m : PoolMemory) → Stands x acts self.old m → MatchResult result
-            (λ _. (first_failing (is_coherent acts) at (length bytes.now) ≡ None) × Stands x (Driver (Driver_put at bytes.now) ∷ acts) self.new m)
+            (λ _. (first_failing (is_coherent acts) at (length bytes.now) ≡ None)
+            × Stands x (Driver (Driver_put at bytes.now) ∷ acts) self.new m)
             (λ bus. first_failing (is_coherent acts) at (length bytes.now) ≡ Some bus.at) }
         ensures err { OnErr result (self.new ≡ self.old) }
         ensures bounce { self.new.bounce ≡ self.old.bounce }

@@ -2,6 +2,21 @@
 
 use super::Row;
 
+/// A driver's bytes that a daemon changes in bounce memory. No line asks the disk for anything.
+pub const BOUNCED: Row = Row {
+    name: "bounced-write",
+    words: &["run"],
+    lines: &[
+        ("dev v", "ok session 0"),
+        ("buf v 616263", "ok 0"),
+        ("map v 0 0 3 both", "ok 0 iova 0x3fff000"),
+        ("store v 0x3fff000 78797a", "ok"),
+        ("peek v 0 0 3", "ok 616263"),
+        ("unmap v 0", "ok"),
+        ("peek v 0 0 3", "ok 78797a"),
+    ],
+};
+
 /// The rows.
 pub fn rows() -> [Row; 10] {
     [
@@ -38,19 +53,7 @@ pub fn rows() -> [Row; 10] {
                 ("load v 0x3fff003 5", "ok 6465000000"),
             ],
         },
-        Row {
-            name: "bounced-write",
-            words: &["run"],
-            lines: &[
-                ("dev v", "ok session 0"),
-                ("buf v 616263", "ok 0"),
-                ("map v 0 0 3 both", "ok 0 iova 0x3fff000"),
-                ("store v 0x3fff000 78797a", "ok"),
-                ("peek v 0 0 3", "ok 616263"),
-                ("unmap v 0", "ok"),
-                ("peek v 0 0 3", "ok 78797a"),
-            ],
-        },
+        BOUNCED,
         Row {
             name: "old-bytes-show",
             words: &["run"],

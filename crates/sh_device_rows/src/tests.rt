@@ -1,0 +1,3 @@
+//! Threads on one device.
+
+mod threads;
