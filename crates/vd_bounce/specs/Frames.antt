@@ -1,5 +1,6 @@
 -- A row of pages, each with a frame of one pool or none, seen as bytes one after another.
-use Rattle.std.specs.Prelude.{ℕ, ◌+◌, ◌/◌, ◌%◌, ◌<◌, ◌≤◌, ◌≡◌, ◌≢◌, List, true, slice_index_or, Option, Some, None, is_some}
+use Rattle.std.specs.Prelude.{ℕ, ◌+◌, ◌/◌, ◌%◌, ◌<◌, ◌≤◌, ◌≡◌, ◌≢◌, List, true, slice_index_or, Option, Some, None, is_some, if◌then◌else◌}
+use Rattle.std.specs.List.{sum_by}
 use Rattle.std.specs.Option.{option_map_or}
 use Rattle.vd_pool.specs.Memory.{PoolMemory, is_out, byte_of}
 
@@ -25,6 +26,10 @@ pub record Keeps (old new : List (Option ℕ)) (before after : PoolMemory) : Typ
   pub holds : Holds new after
   pub size : after.per_page ≡ before.per_page
   pub others : (g : ℕ) → is_out before g ≡ true → IsOther old g → (is_out after g ≡ true) × IsOther new g × ((i : ℕ) → byte_of after g i ≡ byte_of before g i)
+
+-- how many pages of the row have a frame
+abbrev pub held_count : List (Option ℕ) → ℕ
+held_count frames = sum_by (λ slot. if is_some slot then 1 else 0) frames
 
 -- each address of the range lies in a page that has a frame
 abbrev pub Reaches : ℕ → List (Option ℕ) → ℕ → ℕ → Type 0

@@ -4,7 +4,7 @@ ghost use Rattle.std.specs.Prelude.{◌≡◌, ◌+◌, ◌-◌, ◌*◌, ◌/�
 ghost use Rattle.std.specs.Option.{option_map};
 ghost use Rattle.vd_num.specs.Number.{is_within};
 ghost use Rattle.vd_pool.specs.Memory.{PoolMemory};
-ghost use Rattle.vd_bounce.specs.Frames.{frame_of, Holds, Keeps};
+ghost use Rattle.vd_bounce.specs.Frames.{frame_of, held_count, Holds, Keeps};
 ghost use Rattle.vd_bounce.specs.Bounce.{Bounce, Place, Iova, Area, page_size, bounce_len, value, home_place, over, is_page_present, IsThere, SameShape};
 
 use crate::rows;
@@ -354,6 +354,7 @@ impl BounceMap {
     pub fn discard(self, pool: &mut Pool)
         requires holds { Holds self.frames pool.old }
         ensures kept { Keeps self.frames (replicate 0 None) pool.old pool.new }
+        ensures back { pool.new.spare ≡ pool.old.spare + held_count self.frames }
     {
         let BounceMap {
             alloc: _,

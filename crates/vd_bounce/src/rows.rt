@@ -3,7 +3,7 @@
 ghost use Rattle.std.specs.Prelude.{◌≡◌, ◌+◌, ◌-◌, ◌*◌, ◌/◌, ◌%◌, ◌<◌, ◌≤◌, ◌^◌, ◌==◌, ◌||◌, ◌&&◌, not, is_some, ℕ, length, slice_index, if◌then◌else◌, IfOk, None, replicate, slice_index_or, true, false};
 ghost use Rattle.vd_num.specs.Number.{is_within};
 ghost use Rattle.vd_pool.specs.Memory.{frame_size, is_out, byte_of};
-ghost use Rattle.vd_bounce.specs.Frames.{frame_of, frame_byte, Holds, Keeps, Reaches};
+ghost use Rattle.vd_bounce.specs.Frames.{frame_of, frame_byte, held_count, Holds, Keeps, Reaches};
 
 use std::alloc::{AllocError, Global};
 use vd_num::SLOT_SIZE;
@@ -151,6 +151,7 @@ pub fn none(alloc: Global, n: usize) -> Result<Vec<Option<Frame>>, AllocError>
 pub fn discard(mut frames: Vec<Option<Frame>>, pool: &mut Pool)
     requires holds { Holds frames.items pool.old }
     ensures kept { Keeps frames.items (replicate 0 None) pool.old pool.new }
+    ensures back { pool.new.spare ≡ pool.old.spare + held_count frames.items }
 {
     while let Some(slot) = frames.pop() {
         match slot {

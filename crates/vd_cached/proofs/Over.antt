@@ -10,7 +10,7 @@ use Rattle.vd_transfer_laws.proofs.Transfers.{transfer_law}
 use Rattle.vd_region_laws.proofs.LiveRegions.{region_law}
 use Rattle.vd_order_laws.proofs.OrderLaw.{order_law}
 use Rattle.vd_disk_laws.proofs.BlockLaw.{block_law}
-use Rattle.vd_top.specs.declared.progress.Stop.{Stop}
+use Rattle.vd_loop.specs.declared.progress.Stop.{Stop}
 use Rattle.vd_top.specs.Asked.{IsGiven}
 use Rattle.vd_top.specs.Pictures.{Shown, ImageAt, IsDepicted}
 use Rattle.vd_top.specs.RunLaws.{RunLaws}

@@ -4,9 +4,10 @@ use Rattle.vd_model.specs.Setting.{Setting}
 use Rattle.vd_model.specs.History.{deeds_of}
 use Rattle.vd_output.specs.Out.{good_lines, history_after, output_from, script_output}
 use Rattle.vd_engine.specs.Image.{IsImage}
-use Rattle.vd_top.specs.declared.progress.Stop.TheVariants.{Memory}
+use Rattle.vd_loop.specs.declared.progress.Stop.TheVariants.{Memory}
 use Rattle.vd_top.specs.Executes.{AreFailures, AreUpTo}
-use Rattle.vd_top.specs.Written.{Appended, AppendedFront, AppendedLines, WritesBy}
+use Rattle.vd_loop.specs.Written.{Appended}
+use Rattle.vd_top.specs.Written.{AppendedFront, AppendedLines, WritesBy}
 use Rattle.vd_cached.specs.Ends.{DiskAt, stop_of_cached}
 
 none_written : (x : Setting) (text : List ℕ) (held : Option (List ℕ)) → Appended held held (output_from [] x 1 [] (take 0 (good_lines text)))

@@ -5,7 +5,7 @@ use Rattle.vd_model.specs.History.{deeds_of}
 use Rattle.vd_output.specs.Out.{good_lines, history_after}
 use Rattle.vd_options.specs.Words.{Sizes}
 use Rattle.vd_engine.specs.Image.{IsImage}
-use Rattle.vd_top.specs.declared.progress.Stop.{Stop}
+use Rattle.vd_loop.specs.declared.progress.Stop.{Stop}
 use Rattle.vd_top.specs.Executes.{RoseBy}
 use Rattle.vd_top.specs.Pictures.{IsDepicted}
 use Rattle.vd_top.specs.Written.{stop_of_status, is_status}

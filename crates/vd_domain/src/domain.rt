@@ -2,7 +2,7 @@
 
 ghost use Rattle.std.specs.Prelude.{◌≡◌, ◌+◌, ◌-◌, ◌*◌, ◌/◌, ◌<◌, ◌≤◌, ℕ, List, [], ◌∷◌, length, replicate, false, Some, None, IfOk, OnErr, MatchResult};
 ghost use Rattle.vd_pool.specs.Memory.{PoolMemory};
-ghost use Rattle.vd_bounce.specs.Frames.{frame_of, Holds, Keeps};
+ghost use Rattle.vd_bounce.specs.Frames.{frame_of, held_count, Holds, Keeps};
 ghost use Rattle.vd_model.specs.Setting.{Setting};
 ghost use Rattle.vd_model.specs.Acts.{Act, Node, State, Daemon_put};
 ghost use Rattle.vd_model.specs.State.{Cleared};
@@ -211,6 +211,7 @@ impl Domain {
     pub fn discard(self, pool: &mut Pool)
         requires holds { Holds self.bounce.frames pool.old }
         ensures kept { Keeps self.bounce.frames (replicate 0 None) pool.old pool.new }
+        ensures back { pool.new.spare ≡ pool.old.spare + held_count self.bounce.frames }
     {
         let Domain {
             alloc: _,

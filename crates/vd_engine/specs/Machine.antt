@@ -1,8 +1,9 @@
 -- Which history an engine stands for.
 use Rattle.std.specs.Prelude.{ℕ, ◌<◌, ◌≡◌, ◌≢◌, List, length, Bool, true, false, Option, Some, None, All, find, slice_get}
+use Rattle.std.specs.List.{sum_by}
 use Rattle.std.specs.Str.{bytes_eq}
 use Rattle.vd_pool.specs.Memory.{PoolMemory as Pool}
-use Rattle.vd_bounce.specs.Frames.{frame_of}
+use Rattle.vd_bounce.specs.Frames.{frame_of, held_count}
 use Rattle.vd_model.specs.Setting.{Setting}
 use Rattle.vd_model.specs.Creation.{Creation}
 use Rattle.vd_model.specs.Deeds.{Deed, acts_of_device, made_with, devices, clock}
@@ -46,6 +47,10 @@ AreApart rows others = (p q f : ℕ) → frame_of rows p ≡ Some f → frame_of
 pub record AreHeld (ds : List Named) (m : Pool) : Type 0 where
   pub held : (i : ℕ) (d : Named) → slice_get ds i ≡ Some d → IsHeld d.instance m
   pub apart : (i j : ℕ) (c d : Named) → i ≢ j → slice_get ds i ≡ Some c → slice_get ds j ≡ Some d → AreApart (frames c.instance) (frames d.instance)
+
+-- how many frames the devices hold
+abbrev pub frames_out : List Named → ℕ
+frames_out ds = sum_by (λ d. held_count (frames d.instance)) ds
 
 -- all devices, over one pool, stand for what was done to all, each under a name of its own
 pub record AllStand (x : Setting) (done : List Deed) (ds : List Named) (m : Pool) : Type 0 where

@@ -1,5 +1,6 @@
 //! Lines of the control node.
 
+ghost use Rattle.std.specs.Prelude.{◌≡◌, ◌+◌};
 ghost use Rattle.vd_model.specs.ControlTurns.{control_outcome, create_outcome, destroy_outcome, dev_outcome};
 
 use crate::devices::{Named, check_new, place_of};
@@ -13,7 +14,7 @@ use vd_model::{ControlStep, Item, Tag, Window};
 use vd_num::{Bytes, Errno, Name};
 
 impl Engine {
-    ghost use Rattle.vd_engine.specs.Machine.{IsReached};
+    ghost use Rattle.vd_engine.specs.Machine.{IsReached, frames_out};
     ghost use Rattle.vd_engine.specs.Does.{Does, MayDo};
 
     /// Answers a line of the control node or of the clock.
@@ -29,14 +30,8 @@ impl Engine {
             self.old self.new result }
     {
         match step {
-            ControlStep::Version => {
-                told.fields(&[Item::Number(0)]);
-                Ok(())
-            }
-            ControlStep::SetVersion { version } => {
-                tell(told, check_version(*version));
-                Ok(())
-            }
+            ControlStep::Version => told.fields(&[Item::Number(0)]),
+            ControlStep::SetVersion { version } => tell(told, check_version(*version)),
             ControlStep::Create {
                 name,
                 vendor,
@@ -55,26 +50,21 @@ impl Engine {
                     vq_align: *align,
                     config: Bytes::from_vec(Vec::from_slice(self.alloc, config.as_slice())?),
                 };
-                self.create(config, told)
+                self.create(config, told)?;
             }
-            ControlStep::Destroy { name } => {
-                self.destroy(name.as_slice(), told);
-                Ok(())
-            }
-            ControlStep::Dev { name } => self.dev(name.as_slice(), told),
-            ControlStep::Control { number, bytes } => self.raw(*number, bytes.as_slice(), told),
-            ControlStep::Tick { seconds } => {
-                self.tick(*seconds, told);
-                Ok(())
-            }
+            ControlStep::Destroy { name } => self.destroy(name.as_slice(), told),
+            ControlStep::Dev { name } => self.dev(name.as_slice(), told)?,
+            ControlStep::Control { number, bytes } => self.raw(*number, bytes.as_slice(), told)?,
+            ControlStep::Tick { seconds } => self.tick(*seconds, told),
             ControlStep::Image { name, first, count } => {
                 let window = Window {
                     first: *first,
                     count: *count,
                 };
-                self.image(name.as_slice(), window, told)
+                self.image(name.as_slice(), window, told)?;
             }
         }
+        Ok(())
     }
 
     /// Makes a device.
@@ -149,9 +139,11 @@ impl Engine {
     pub(crate) fn destroy<T: Hears>(&mut self, name: &[u8], told: &mut T)
         requires ready { T.is_ready told.old }
         requires reached { IsReached self.old }
-        ensures { Does (λ said. T.heard told.old said told.new)
+        ensures line { Does (λ said. T.heard told.old said told.new)
             (λ x done. destroy_outcome done name.now)
             self.old self.new }
+        ensures back { self.new.pool.spare + frames_out self.new.devices.items
+            ≡ self.old.pool.spare + frames_out self.old.devices.items }
     {
         match place_of(&self.devices, name) {
             None => told.refused(Errno::Nodev),

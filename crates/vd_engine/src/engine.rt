@@ -52,7 +52,7 @@ pub struct Engine {
 impl Engine {
     ghost use Rattle.vd_engine.specs.Flushes.{Counts, is_flush_step};
     ghost use Rattle.vd_engine.specs.Image.{IsImage, HoldsOwn};
-    ghost use Rattle.vd_engine.specs.Machine.{StandsFor, StandsAt, IsReached};
+    ghost use Rattle.vd_engine.specs.Machine.{StandsFor, StandsAt, IsReached, frames_out};
     ghost use Rattle.vd_engine.specs.Does.{Serves, Goes};
 
     /// An engine without devices, each of which will have these sizes, for an image of so many sectors.
@@ -206,9 +206,10 @@ impl Engine {
         })
     }
 
-    /// Gives every frame back, and ends.
-    pub fn end(self)
+    /// Gives every frame back, and ends: the pool has them all again.
+    pub fn end(self) -> Pool
         requires { IsReached self }
+        ensures { result.spare ≡ self.pool.spare + frames_out self.devices.items }
     {
         let Engine {
             alloc: _,
@@ -225,5 +226,6 @@ impl Engine {
             instance.discard(&mut pool);
         }
         devices.destroy_empty();
+        pool
     }
 }

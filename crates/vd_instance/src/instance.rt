@@ -1,8 +1,8 @@
 //! A device and its queues.
 
-ghost use Rattle.std.specs.Prelude.{◌≡◌, ◌<◌, [], ◌∷◌, ℕ, List, None, IfOk, replicate, ◌||◌};
+ghost use Rattle.std.specs.Prelude.{◌≡◌, ◌+◌, ◌<◌, [], ◌∷◌, ℕ, List, None, IfOk, replicate, ◌||◌};
 ghost use Rattle.vd_pool.specs.Memory.{PoolMemory};
-ghost use Rattle.vd_bounce.specs.Frames.{Holds, Keeps};
+ghost use Rattle.vd_bounce.specs.Frames.{held_count, Holds, Keeps};
 ghost use Rattle.vd_model.specs.Setting.{Setting};
 ghost use Rattle.vd_model.specs.Creation.{Creation};
 ghost use Rattle.vd_model.specs.Acts.{Act, Message_act, Node, Bus, Opened, Attached};
@@ -138,7 +138,8 @@ impl Instance {
     /// Gives every frame back and keeps nothing.
     pub fn discard(self, pool: &mut Pool)
         requires { Holds (frames self) pool.old }
-        ensures { Keeps (frames self) (replicate 0 None) pool.old pool.new }
+        ensures kept { Keeps (frames self) (replicate 0 None) pool.old pool.new }
+        ensures back { pool.new.spare ≡ pool.old.spare + held_count (frames self) }
     {
         let Instance {
             device,

@@ -1,7 +1,7 @@
 //! A device's memory.
 
 ghost use Rattle.std.specs.Prelude.{◌≡◌, ◌+◌, ◌*◌, ◌/◌, ◌<◌, ◌≤◌, ◌∷◌, ◌++◌, ◌||◌, nat_lt, List, [], length, replicate, None, IfOk, OnOk};
-ghost use Rattle.vd_bounce.specs.Frames.{Holds, Keeps};
+ghost use Rattle.vd_bounce.specs.Frames.{held_count, Holds, Keeps};
 ghost use Rattle.vd_model.specs.Setting.{Setting};
 ghost use Rattle.vd_model.specs.Acts.{Act, Node, State, Closed};
 ghost use Rattle.vd_model.specs.State.{Cleared};
@@ -86,7 +86,8 @@ impl Memory {
     /// Gives every frame back and keeps nothing.
     pub fn discard(self, pool: &mut Pool)
         requires { Holds self.domain.bounce.frames pool.old }
-        ensures { Keeps self.domain.bounce.frames (replicate 0 None) pool.old pool.new }
+        ensures kept { Keeps self.domain.bounce.frames (replicate 0 None) pool.old pool.new }
+        ensures back { pool.new.spare ≡ pool.old.spare + held_count self.domain.bounce.frames }
     {
         let Memory {
             alloc: _,

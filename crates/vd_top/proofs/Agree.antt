@@ -6,7 +6,7 @@ use Rattle.vd_model.specs.History.{History}
 use Rattle.vd_model.specs.Reading.{reading}
 use Rattle.vd_output.specs.Out.{has_failed, later_of, reply_to, history_after, output_from}
 use Rattle.vd_top.specs.Pictures.{Shown, HoldsRun, Holds}
-use Rattle.vd_top.specs.Replies.{Replies, line_at}
+use Rattle.vd_loop.specs.Replies.{Replies, line_at}
 use Rattle.vd_top.specs.Played.{IsIn, Waits}
 
 -- the image failed at the same of so many lines, of which the first is line n

@@ -10,14 +10,14 @@ use Rattle.vd_engine.specs.Image.{IsImage}
 use Rattle.vd_engine.specs.Frugal.{is_execution}
 use Rattle.vd_engine.specs.Does.{Goes}
 use Rattle.vd_top.specs.declared.player.Player.{Player}
-use Rattle.vd_top.specs.declared.progress.Progress.{Progress}
-use Rattle.vd_top.specs.declared.progress.Stop.{Stop}
-use Rattle.vd_top.specs.declared.progress.Stop.TheVariants.{End, SourceFailed, SinkFailed, Memory, BadLine, TooLong}
+use Rattle.vd_loop.specs.declared.progress.Progress.{Progress}
+use Rattle.vd_loop.specs.declared.progress.Stop.{Stop}
+use Rattle.vd_loop.specs.declared.progress.Stop.TheVariants.{End, SourceFailed, SinkFailed, Memory, BadLine, TooLong}
 use Rattle.vd_engine.specs.Flushes.{is_flush_step, flushes}
 use Rattle.vd_io.specs.Told.{Rose}
 use Rattle.vd_top.specs.Executes.{failed_more, RoseBy}
 use Rattle.vd_top.specs.Pictures.{Shown, HoldsRun}
-use Rattle.vd_top.specs.Replies.{Replies, IsReplyAdded, Flushed}
+use Rattle.vd_loop.specs.Replies.{Replies, IsReplyAdded, Flushed}
 use Rattle.vd_top.specs.Played.{Carried, Answered, Untold, Unchanged, IsHindered, StoppedBy}
 use Rattle.vd_top.proofs.Plays.{flushed_same}
 

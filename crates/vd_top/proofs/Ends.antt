@@ -9,13 +9,14 @@ use Rattle.vd_engine.specs.declared.engine.Engine.{Engine}
 use Rattle.vd_engine.specs.Image.{IsImage}
 use Rattle.vd_engine.specs.Machine.{StandsFor}
 use Rattle.vd_top.specs.declared.player.Player.{Player}
-use Rattle.vd_top.specs.declared.exit.Exit.{Exit}
-use Rattle.vd_top.specs.declared.progress.Stop.{Stop}
-use Rattle.vd_top.specs.declared.progress.Stop.TheVariants.{End, SourceFailed, SinkFailed, Memory, BadLine, TooLong}
+use Rattle.vd_loop.specs.declared.exit.Exit.{Exit}
+use Rattle.vd_loop.specs.declared.progress.Stop.{Stop}
+use Rattle.vd_loop.specs.declared.progress.Stop.TheVariants.{End, SourceFailed, SinkFailed, Memory, BadLine, TooLong}
 use Rattle.vd_top.specs.Executes.{AreFailures, AreUpTo}
 use Rattle.vd_top.specs.Pictures.{Shown, ImageAt}
-use Rattle.vd_top.specs.Replies.{Cut}
-use Rattle.vd_top.specs.Written.{Appended, AppendedLines, StopsBy, WritesBy, stop_of_status, is_status}
+use Rattle.vd_loop.specs.Replies.{Cut}
+use Rattle.vd_loop.specs.Written.{Appended}
+use Rattle.vd_top.specs.Written.{AppendedLines, StopsBy, WritesBy, stop_of_status, is_status}
 use Rattle.vd_top.specs.Played.{IsSetting, Played, PlayedTo, PlayedCut, line_of, most_of, status_of}
 use Rattle.vd_top.proofs.Waits.{all_written, lines_of}
 use Rattle.vd_top.proofs.Halts.{cut_to}

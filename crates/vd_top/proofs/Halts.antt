@@ -14,11 +14,11 @@ use Rattle.vd_engine.specs.declared.engine.Engine.{Engine}
 use Rattle.vd_engine.specs.Image.{IsImage}
 use Rattle.vd_engine.specs.Machine.{StandsFor}
 use Rattle.vd_top.specs.declared.player.Player.{Player}
-use Rattle.vd_top.specs.declared.progress.Stop.{Stop}
-use Rattle.vd_top.specs.declared.progress.Stop.TheVariants.{End, SourceFailed, SinkFailed, Memory, BadLine, TooLong}
+use Rattle.vd_loop.specs.declared.progress.Stop.{Stop}
+use Rattle.vd_loop.specs.declared.progress.Stop.TheVariants.{End, SourceFailed, SinkFailed, Memory, BadLine, TooLong}
 use Rattle.vd_top.specs.Executes.{is_execute_line, executes, AreFailures, AreUpTo}
 use Rattle.vd_top.specs.Pictures.{Shown, HoldsRun, Holds, ImageAt}
-use Rattle.vd_top.specs.Replies.{Replies, Cut, Flushed}
+use Rattle.vd_loop.specs.Replies.{Replies, Cut, Flushed}
 use Rattle.vd_top.specs.Played.{Answered, Untold, Unchanged, StoppedBy, StopsAt, Waits, Played, PlayedTo, PlayedCut, most_of}
 use Rattle.vd_top.proofs.Failures.{failures_in}
 use Rattle.vd_top.proofs.Agree.{waits_agrees}

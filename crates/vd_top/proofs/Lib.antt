@@ -1,5 +1,3 @@
-pub mod Founds
-pub mod Marks
 pub mod Failures
 pub mod Agree
 pub mod Waits

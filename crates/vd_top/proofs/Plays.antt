@@ -18,11 +18,12 @@ use Rattle.vd_top.specs.declared.player.Player.{Player}
 use Rattle.vd_top.specs.Executes.{asks_execution, is_execute_line, executes, AreFailures, AreUpTo, failed_more}
 use Rattle.vd_engine.specs.Flushes.{flushes}
 use Rattle.vd_top.specs.Pictures.{Shown, HoldsRun, Holds}
-use Rattle.vd_top.specs.Replies.{Replies, Flushed, line_at}
+use Rattle.vd_loop.specs.Replies.{Replies, Flushed, line_at}
 use Rattle.vd_top.specs.Played.{Answered, Carried, IsSetting, IsLast, Waits}
 use Rattle.vd_top.proofs.Failures.{none_above, failed_here, failed_else, up_to_more, executes_by, failures_none, failures_more}
 use Rattle.vd_top.proofs.Agree.{Agree, history_agrees, holds_agrees, waits_agrees, history_none, history_more}
-use Rattle.vd_top.proofs.Waits.{appended_none, waits_first, waits_more, waits_flushed}
+use Rattle.vd_loop.proofs.Waits.{appended_none}
+use Rattle.vd_top.proofs.Waits.{waits_first, waits_more, waits_flushed}
 
 -- ---- good lines
 

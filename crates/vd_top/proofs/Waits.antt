@@ -7,30 +7,12 @@ use Rattle.vd_io.specs.Told.{Pushed}
 use Rattle.vd_model.specs.Setting.{Setting}
 use Rattle.vd_model.specs.Reading.{reading}
 use Rattle.vd_output.specs.Out.{good_lines, has_failed, reply_to, history_after, output_from, script_output}
-use Rattle.vd_top.specs.Written.{Appended, AppendedFront, replies, IsCut, AppendedCut, AppendedLines}
-use Rattle.vd_top.specs.Replies.{Replies, IsReplyAdded, Cut, Flushed, line_at}
+use Rattle.vd_loop.specs.Written.{Appended}
+use Rattle.vd_top.specs.Written.{AppendedFront, replies, IsCut, AppendedCut, AppendedLines}
+use Rattle.vd_loop.specs.Replies.{Replies, IsReplyAdded, Cut, Flushed, line_at}
 use Rattle.vd_top.specs.Played.{IsIn, Waits}
+use Rattle.vd_loop.proofs.Waits.{appended_none, appended_both}
 use Rattle.vd_top.proofs.Agree.{script_output_none, script_output_more, script_output_split}
-
--- ---- what is written
-
-pub appended_none : (held : Option (List ℕ)) → Appended held held []
-appended_none None = tt
-appended_none (Some base) = ap Some (sym (append-nil base))
-
-pub appended_both : (old now next : Option (List ℕ)) (a b : List ℕ) → Appended old now a → Appended now next b → Appended old next (a ++ b)
-appended_both None now next a b p q = tt
-appended_both (Some base) now next a b p q = subst (λ o. Appended o next b) p q ∙ ap Some (append_assoc base a b)
-
-pub appended_more : (at n : ℕ) (bytes : List ℕ) (first now later : Option (List ℕ)) → Appended first now (take at bytes) → Pushed n (drop at bytes) now later → Appended first later (take (at + n) bytes)
-appended_more at n bytes None now later a p = tt
-appended_more at n bytes (Some base) now later a p =
-    let q = subst (λ o. Pushed n (drop at bytes) o later) a p in
-    q ∙ ap Some (append_assoc base (take at bytes) (take n (drop at bytes)) ∙ ap (λ l. base ++ l) (sym (take-add at n bytes)))
-
--- all that follows
-pub take_rest : (n : ℕ) (xs : List ℕ) → take (length xs - n) (drop n xs) ≡ drop n xs
-take_rest n xs = subst (λ k. take k (drop n xs) ≡ drop n xs) (length-drop n xs) (take-length (drop n xs))
 
 -- ---- the line of each byte
 

@@ -3,6 +3,5 @@ pub mod Asked
 pub mod Executes
 pub mod Pictures
 pub mod Played
-pub mod Replies
 pub mod RunLaws
 pub mod Written

@@ -5,8 +5,8 @@ use Rattle.vd_model.specs.History.{History, deeds_of}
 use Rattle.vd_output.specs.Out.{good_lines, history_after}
 use Rattle.vd_engine.specs.Image.{IsImage}
 use Rattle.vd_engine.specs.Flushes.{flushes}
-use Rattle.vd_top.specs.declared.progress.Stop.{Stop}
-use Rattle.vd_top.specs.declared.progress.Stop.TheVariants.{End, SourceFailed, SinkFailed, Memory, BadLine, TooLong}
+use Rattle.vd_loop.specs.declared.progress.Stop.{Stop}
+use Rattle.vd_loop.specs.declared.progress.Stop.TheVariants.{End, SourceFailed, SinkFailed, Memory, BadLine, TooLong}
 use Rattle.vd_top.specs.Executes.{RoseBy}
 
 -- what is seen of an image: its bytes, if it tells them, and how often it was flushed

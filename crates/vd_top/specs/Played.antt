@@ -7,16 +7,17 @@ use Rattle.vd_output.specs.Out.{good_lines, stop_of, At_the_end, Not_in_grammar,
 use Rattle.vd_lines.specs.IsAt.{IsTaken}
 use Rattle.vd_top.specs.declared.grammar.Line.{Line}
 use Rattle.vd_top.specs.declared.grammar.Line.TheVariants.{Bad, Nothing, Asks}
-use Rattle.vd_top.specs.declared.progress.Stop.{Stop}
-use Rattle.vd_top.specs.declared.progress.Stop.TheVariants.{End, SourceFailed, SinkFailed, Memory, BadLine, TooLong}
+use Rattle.vd_loop.specs.declared.progress.Stop.{Stop}
+use Rattle.vd_loop.specs.declared.progress.Stop.TheVariants.{End, SourceFailed, SinkFailed, Memory, BadLine, TooLong}
 use Rattle.vd_top.specs.declared.player.Player.{Player}
 use Rattle.vd_engine.specs.declared.engine.Engine.{Engine}
 use Rattle.vd_engine.specs.Machine.{StandsFor}
 use Rattle.vd_engine.specs.Image.{IsImage}
 use Rattle.vd_top.specs.Executes.{asks_execution, executes, AreFailures, AreUpTo, failed_more}
 use Rattle.vd_top.specs.Pictures.{Shown, HoldsRun, HoldsFrom, ImageAt}
-use Rattle.vd_top.specs.Replies.{Replies, IsReplyAdded, Cut, Flushed, line_at}
-use Rattle.vd_top.specs.Written.{Appended, AppendedCut}
+use Rattle.vd_loop.specs.Replies.{Replies, IsReplyAdded, Cut, Flushed, line_at}
+use Rattle.vd_loop.specs.Written.{Appended}
+use Rattle.vd_top.specs.Written.{AppendedCut}
 
 -- what a line was read as
 abbrev pub Says : Line → Option (Option Step) → Type 0

@@ -3,14 +3,11 @@ use Rattle.std.specs.Prelude.{ℕ, ◌+◌, ◌<◌, ◌≤◌, ◌≡◌, List,
 use Rattle.vd_model.specs.Setting.{Setting}
 use Rattle.vd_output.specs.Out.{good_lines, stop_of, At_the_end, Not_in_grammar, Too_long, output_from, script_output}
 use Rattle.vd_lines.specs.IsAt.{IsTaken}
-use Rattle.vd_top.specs.declared.progress.Stop.{Stop}
-use Rattle.vd_top.specs.declared.progress.Stop.TheVariants.{End, SourceFailed, SinkFailed, Memory, BadLine, TooLong}
+use Rattle.vd_loop.specs.Written.{Appended}
+use Rattle.vd_loop.specs.declared.progress.Stop.{Stop}
+use Rattle.vd_loop.specs.declared.progress.Stop.TheVariants.{End, SourceFailed, SinkFailed, Memory, BadLine, TooLong}
 
--- new holds these bytes more than old; or a front of them
-abbrev pub Appended : Option (List ℕ) → Option (List ℕ) → List ℕ → Type 0
-Appended None new bytes = Unit {0}
-Appended (Some base) new bytes = new ≡ Some (base ++ bytes)
-
+-- new holds a front of these bytes more than old
 abbrev pub AppendedFront : Option (List ℕ) → Option (List ℕ) → List ℕ → Type 0
 AppendedFront None new bytes = Unit {0}
 AppendedFront (Some base) new bytes = (front : List ℕ) × (back : List ℕ) × (front ++ back ≡ bytes) × (new ≡ Some (base ++ front))

@@ -11,25 +11,13 @@ ghost use Rattle.vd_top.specs.Pictures.{ImageAt, shown};
 ghost use Rattle.vd_top.specs.Written.{StopsBy, WritesBy, stop_of_status, is_status, is_line_status};
 ghost use Rattle.vd_top.specs.Played.{status_of, line_of, is_own};
 
-use crate::progress::{Progress, Stop};
 use crate::script::{Responder, play};
 use std::alloc::Global;
 use vd_engine::Sizes;
 use vd_io::{Image, Sink, Source};
+use vd_loop::{Exit, Progress, Stop};
 use vd_model::Lines;
 use vd_options::Options;
-
-/// How a script ended: its status, the line at which it stopped if a line stopped it, how many
-/// lines' replies were written whole, and the lines at which the image failed. Status 0: all lines
-/// were answered. 2: the words are not those of a run. 3: the source failed. 4: the sink failed. 5:
-/// want of memory. 6: the line is not in the grammar. 7: the line or the script is too long.
-#[derive(Drop)]
-pub struct Exit {
-    pub status: u8,
-    pub line: u64,
-    pub lines_done: u64,
-    pub disk_failures: Lines,
-}
 
 /// The end of a script that stopped so, where the image failed at these lines.
 fn ended(progress: Progress, disk_failures: Lines) -> Exit
@@ -118,20 +106,5 @@ pub fn run<S: Source, K: Sink, I: Image>(
                 disk_failures,
             ),
         },
-    }
-}
-
-/// The end of a run whose words are not those of a run.
-pub fn usage(alloc: Global) -> Exit
-    ensures status { result.status ≡ 2 }
-    ensures line { result.line ≡ 0 }
-    ensures lines_done { result.lines_done ≡ 0 }
-    ensures disk_failures { result.disk_failures ≡ [] }
-{
-    Exit {
-        status: 2,
-        line: 0,
-        lines_done: 0,
-        disk_failures: Lines::new(alloc),
     }
 }

@@ -7,11 +7,9 @@
 mod exit;
 mod grammar;
 mod player;
-mod progress;
 mod script;
 mod top;
-mod waiting;
 
-pub use exit::Exit;
 pub use top::script_top;
+pub use vd_loop::Exit;
 pub use vd_options::{Options, WordsError, read_words};

@@ -9,14 +9,13 @@ ghost use Rattle.vd_engine.specs.Machine.{StandsFor, IsReached};
 ghost use Rattle.vd_engine.specs.Frugal.{is_execution};
 ghost use Rattle.vd_top.specs.Executes.{RoseBy, failed_more};
 ghost use Rattle.vd_top.specs.Pictures.{shown};
-ghost use Rattle.vd_top.specs.Replies.{IsReplyAdded, Flushed};
+ghost use Rattle.vd_loop.specs.Replies.{IsReplyAdded, Flushed};
 ghost use Rattle.vd_top.specs.Played.{Answered, IsHindered, StoppedBy};
 
-use crate::progress::{Progress, Stop};
-use crate::waiting::Waiting;
 use std::alloc::{AllocError, Global};
 use vd_engine::{Engine, Sizes};
 use vd_io::{Image, Sink};
+use vd_loop::{Progress, Stop, Waiting};
 use vd_model::{QueueStep, Step};
 use vd_replies::{Printed, ROOM};
 

@@ -8,17 +8,16 @@ ghost use Rattle.vd_device.specs.Sizes.{AreFit, IsSized};
 ghost use Rattle.vd_engine.specs.Machine.{StandsFor, IsReached};
 ghost use Rattle.vd_top.specs.Executes.{RoseBy, executes, is_execute_line};
 ghost use Rattle.vd_top.specs.Pictures.{shown};
-ghost use Rattle.vd_top.specs.Replies.{Cut, Flushed};
+ghost use Rattle.vd_loop.specs.Replies.{Cut, Flushed};
 ghost use Rattle.vd_top.specs.Played.{Answered, StoppedBy, Played, is_own};
 
 use crate::grammar::{Line, read_line};
 use crate::player::Player;
-use crate::progress::{Progress, Stop};
-use crate::waiting::Waiting;
 use std::alloc::{AllocError, Global};
 use vd_engine::Sizes;
 use vd_io::{Image, Sink, Source};
 use vd_lines::{LineReader, Next, ReadFault};
+use vd_loop::{Progress, Stop, Waiting};
 
 /// How many bytes of replies wait at most before they are written.
 const FLUSH: usize = 65536;

@@ -13,9 +13,10 @@ ghost use Rattle.vd_top.specs.Pictures.{ImageAt, shown};
 ghost use Rattle.vd_top.specs.RunLaws.{RunLaws};
 ghost use Rattle.vd_top.specs.Written.{StopsBy, WritesBy, stop_of_status, is_status, is_line_status};
 
-use crate::exit::{Exit, run, sizes_of, usage};
+use crate::exit::{run, sizes_of};
 use std::alloc::Global;
 use vd_io::{Image, Sink, Source};
+use vd_loop::Exit;
 use vd_options::read_numbers;
 
 /// Runs the script that the source gives, with the words of a run.
@@ -89,7 +90,7 @@ pub fn script_top<S: Source, K: Sink, I: Image>(
         (result.status ≡ 0) ⊎ (result.status ≡ 5) }
 {
     match read_numbers(words) {
-        Err(_) => usage(alloc),
+        Err(_) => Exit::usage(alloc),
         Ok(options) => run(alloc, sizes_of(&options), source, sink, disk),
     }
 }

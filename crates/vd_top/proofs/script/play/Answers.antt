@@ -4,7 +4,7 @@ use Rattle.vd_lines.specs.IsAt.{IsNext, IsRead}
 use Rattle.vd_lines.proofs.Places.{at_first}
 use Rattle.vd_model.specs.Reading.{reading}
 use Rattle.vd_top.specs.Pictures.{shown}
-use Rattle.vd_top.specs.declared.progress.Progress.{Progress}
+use Rattle.vd_loop.specs.declared.progress.Progress.{Progress}
 use Rattle.vd_top.specs.Executes.{is_execute_line}
 use Rattle.vd_top.specs.Played.{Answered, StoppedBy, Played}
 use Rattle.vd_top.proofs.Plays.{so_first}

@@ -6,7 +6,7 @@ use Rattle.vd_replies.specs.declared.printed.Printed.{Printed}
 use Rattle.vd_engine.specs.Machine.{StandsFor}
 use Rattle.vd_engine.specs.Image.{IsImage}
 use Rattle.vd_top.specs.Executes.{failed_more}
-use Rattle.vd_top.specs.Replies.{Flushed}
+use Rattle.vd_loop.specs.Replies.{Flushed}
 use Rattle.vd_top.specs.Pictures.{shown}
 use Rattle.vd_top.proofs.Answered.{holds_more, step_told}
 use Rattle.vd_top.proofs.player.Player.play.Goals as goal
