@@ -14,7 +14,7 @@ use Rattle.vd_loop.specs.declared.progress.Stop.{Stop}
 use Rattle.vd_top.specs.Asked.{IsGiven}
 use Rattle.vd_top.specs.Pictures.{Shown, ImageAt, IsDepicted}
 use Rattle.vd_top.specs.RunLaws.{RunLaws}
-use Rattle.vd_top.specs.Written.{is_status, stop_of_status}
+use Rattle.vd_loop.specs.Statuses.{is_status, stop_of_status}
 use Rattle.vd_cached.specs.Words.{cached_sizes}
 use Rattle.vd_cached.specs.Ends.{IsGivenCached, DiskAt, flushed_status, stop_of_cached}
 use Rattle.vd_cached.proofs.Statuses.{run_is}

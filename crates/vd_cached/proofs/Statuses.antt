@@ -4,7 +4,7 @@ use Rattle.std.specs.Prelude.{Result, Ok, Err, OnOk, IsErr, is_ok}
 use Rattle.std.proofs.lemmas.Bool.Decides.{nat_tests}
 use Rattle.vd_io.specs.Told.{Rose}
 use Rattle.vd_top.specs.Executes.{RoseBy}
-use Rattle.vd_top.specs.Written.{is_status, is_line_status}
+use Rattle.vd_loop.specs.Statuses.{is_status, is_line_status}
 use Rattle.vd_cached.specs.Ends.{IsFlushed, flushed_status, run_status, is_cached_status}
 
 pub run_is : (f : Bool) (n : ℕ) → is_status n ≡ true → run_status (flushed_status f n) ≡ n

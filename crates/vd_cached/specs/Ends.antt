@@ -8,7 +8,7 @@ use Rattle.vd_engine.specs.Image.{IsImage}
 use Rattle.vd_loop.specs.declared.progress.Stop.{Stop}
 use Rattle.vd_top.specs.Executes.{RoseBy}
 use Rattle.vd_top.specs.Pictures.{IsDepicted}
-use Rattle.vd_top.specs.Written.{stop_of_status, is_status}
+use Rattle.vd_loop.specs.Statuses.{stop_of_status, is_status}
 use Rattle.vd_cached.specs.Words.{cached_sizes}
 
 -- the words are those of a run over a cache with these sizes, and this text is left in the source

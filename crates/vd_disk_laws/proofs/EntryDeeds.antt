@@ -9,7 +9,6 @@ use Rattle.vd_model.specs.declared.answer.Answer.TheVariants.{Done}
 use Rattle.vd_model.specs.declared.step.Step.{Step}
 use Rattle.vd_model.specs.declared.step.Step.TheVariants.{Control, Device}
 use Rattle.vd_model.specs.declared.step.Step.TheVariants as step_of
-use Rattle.vd_model.specs.declared.step.DevStep.{DevStep}
 use Rattle.vd_model.specs.declared.step.QueueStep.{QueueStep}
 use Rattle.vd_model.specs.declared.step.QueueStep.TheVariants as queue
 use Rattle.vd_model.specs.Setting.{Setting}
@@ -19,15 +18,15 @@ use Rattle.vd_model.specs.Turn.{Turn, refuse, refusal_turn}
 use Rattle.vd_model.specs.Queues.{in_hand, execution_of, Execution}
 use Rattle.vd_model.specs.DaemonTurns.{hand, execute_hand, execute_turn, finish_turn}
 use Rattle.vd_model.specs.Deeds.{On, Seen, device_view, acts_of_device}
-use Rattle.vd_model.specs.History.{Entry, History, deeds_of, reply, disk_of, dev_turn, queue_turn, device_turn, device_queue_turn}
+use Rattle.vd_model.specs.History.{Entry, History, deeds_of, reply, disk_of, queue_turn, device_turn, device_queue_turn}
 use Rattle.vd_model.specs.Agree.{concerns}
 use Rattle.vd_laws.specs.Runs.{acts_of}
-use Rattle.vd_ring_laws.specs.Calm.{is_calm, is_calm_line, is_calm_queue_line}
+use Rattle.vd_ring_laws.specs.Calm.{is_calm, is_calm_queue_line}
 use Rattle.vd_laws.proofs.IsolationLaw.{name_is}
 use Rattle.vd_laws.proofs.Turns.{acts_of_device_on}
 use Rattle.vd_ring_laws.proofs.Fair.{is_put}
 use Rattle.vd_ring_bytes.proofs.Numbers.{same_number}
-use Rattle.vd_order_laws.proofs.OtherLines.{is_off, dev_off}
+use Rattle.vd_order_laws.proofs.OtherLines.{device_off}
 use Rattle.vd_disk_laws.proofs.LineDeeds.{AreOther, offs_other, Finishes, unfinished, finished, Executes_as, unexecuted, executes, finish_does, execute_does, queue_other}
 use Rattle.vd_order_laws.proofs.OrderLaw.{control_acts}
 
@@ -57,12 +56,6 @@ name_self (b ∷ d) = ap (λ c. c && bytes_eq d d) (same_number b) ∙ name_self
 module _ (x : Setting) (d : List ℕ) (q : ℕ) (g : History) where
   abbrev s : Seen
   s = device_view x d (deeds_of x g)
-
-  device_off : (step : DevStep) → is_calm_line step ≡ true → list_all is_off (device_turn x s step).acts ≡ true
-  device_off step c = by s.made where
-    by : (o : Option Creation) → list_all is_off (option_map_or (λ made. dev_turn x made s step) o (refusal_turn Nodev)).acts ≡ true
-    by None = refl
-    by (Some made) = dev_off x made s step c
 
   queue_others : (failed : Bool) (step : QueueStep) → is_calm_queue_line step ≡ true → ((k : ℕ) → (step ≡ queue.Finish k) ⊎ (step ≡ queue.Execute k) → (k == q) ≡ false) → AreOther q (device_queue_turn x d s failed step).acts
   queue_others failed step c h = by s.made where
@@ -147,7 +140,7 @@ module _ (x : Setting) (d : List ℕ) (q : ℕ) (g : History) where
   entry_makes (Device name step) failed c = by (bytes_eq d name) refl (acts_of_device_on d name (device_turn x (device_view x name (deeds_of x g)) step).acts (deeds_of x g)) where
     by : (b : Bool) → bytes_eq d name ≡ b → acts_of_device d (map (On name) (device_turn x (device_view x name (deeds_of x g)) step).acts ++ deeds_of x g) ≡ (if b then (device_turn x (device_view x name (deeds_of x g)) step).acts else []) ++ acts_of_device d (deeds_of x g)
         → Makes x d q g (record { step = Device name step; failed = failed })
-    by true e f = other (device_turn x s step).acts (f ∙ ap (λ n. (device_turn x (device_view x n (deeds_of x g)) step).acts ++ acts_of_device d (deeds_of x g)) (sym (name_is d name e))) (offs_other q (device_turn x s step).acts (device_off step (c e)))
+    by true e f = other (device_turn x s step).acts (f ∙ ap (λ n. (device_turn x (device_view x n (deeds_of x g)) step).acts ++ acts_of_device d (deeds_of x g)) (sym (name_is d name e))) (offs_other q (device_turn x s step).acts (device_off x s step))
         (apart_step (Device name step) failed (queue.Finish q) (λ h. cc)) (apart_step (Device name step) failed (queue.Execute q) (λ h. cc))
     by false e f = other [] f tt (apart_step (Device name step) failed (queue.Finish q) (λ h. cc)) (apart_step (Device name step) failed (queue.Execute q) (λ h. cc))
   entry_makes (step_of.Queue name step) failed c = by (bytes_eq d name) refl (acts_of_device_on d name (device_queue_turn x name (device_view x name (deeds_of x g)) failed step).acts (deeds_of x g)) where

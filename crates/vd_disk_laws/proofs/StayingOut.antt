@@ -1,5 +1,5 @@
 -- The chain of a submit stays out until a poll reports it.
-use Rattle.std.proofs.Common.{◌≡◌, ℕ, ◌+◌, Bool, true, false, refl, ap, subst, ◌∙◌, sym, Option, None, Some, List, [], ◌∷◌, ◌++◌, ◌&&◌, map, take, not, if◌then◌else◌}
+use Rattle.std.proofs.Common.{◌≡◌, ℕ, ◌+◌, Bool, true, false, refl, ap, subst, ◌∙◌, sym, Option, None, Some, List, [], ◌∷◌, ◌++◌, map, take, not, if◌then◌else◌}
 use Rattle.std.specs.Str.{bytes_eq}
 use Rattle.std.specs.List.{list_all}
 use Rattle.std.specs.Option.{option_map_or}
@@ -9,7 +9,6 @@ use Rattle.vd_num.specs.declared.errno.Errno.TheVariants.{Nodev, Badf}
 use Rattle.vd_model.specs.declared.step.Step.{Step}
 use Rattle.vd_model.specs.declared.step.Step.TheVariants.{Control, Device}
 use Rattle.vd_model.specs.declared.step.Step.TheVariants as step_of
-use Rattle.vd_model.specs.declared.step.DevStep.{DevStep}
 use Rattle.vd_model.specs.declared.step.QueueStep.{QueueStep}
 use Rattle.vd_model.specs.declared.step.QueueStep.TheVariants as queue
 use Rattle.vd_model.specs.declared.answer.Item.{Item}
@@ -26,11 +25,12 @@ use Rattle.vd_model.specs.Queues.{Ring, ring_of, chains_out, reclaimed_count, ad
 use Rattle.vd_model.specs.DaemonTurns.{queue_place, has_indirect, event_puts, fetch_turn, finish_puts, finish_turn, used_position, hand, execute_turn}
 use Rattle.vd_model.specs.RingTurns.{AskedRequest, asked_by, first_of, slot_put, used_event_puts, request_end_acts, request_puts, parts_count, mapping_part, map_acts, buffer_acts, submitted_turn, needed_descriptors, ring_turn, submit_turn, poll_turn, completed_turn}
 use Rattle.vd_model.specs.Deeds.{On, Seen, device_view, acts_of_device}
-use Rattle.vd_model.specs.History.{Entry, History, deeds_of, reply, needs_session, needs_bus, disk_of, dev_turn, queue_turn, device_turn, device_queue_turn}
+use Rattle.vd_model.specs.History.{Entry, History, deeds_of, reply, needs_session, needs_bus, disk_of, queue_turn, device_turn, device_queue_turn}
 use Rattle.vd_model.specs.Agree.{concerns}
+use Rattle.vd_line_acts.proofs.Passing.{wider}
 use Rattle.vd_laws.specs.Among.{Among}
 use Rattle.vd_laws.specs.Runs.{acts_of}
-use Rattle.vd_ring_laws.specs.Calm.{is_calm, is_calm_line, is_calm_queue_line}
+use Rattle.vd_ring_laws.specs.Calm.{is_calm, is_calm_queue_line}
 use Rattle.vd_laws.proofs.IsolationLaw.{name_is}
 use Rattle.vd_laws.proofs.Turns.{acts_of_device_on}
 use Rattle.vd_ring_laws.proofs.Drivers.{is_driver, are_driver, append_driver, maps_driver, buffers_driver, request_puts_driver, used_event_driver, ended_driver}
@@ -39,7 +39,7 @@ use Rattle.vd_ring_laws.proofs.Fair.{is_put, event_put, finish_put}
 use Rattle.vd_ring_laws.proofs.Mild.{is_mild, are_mild, execute_mild}
 use Rattle.vd_ring_turns.proofs.Fetches.{refuse_with}
 use Rattle.vd_order_laws.proofs.FreeRings.{AreFree, mild_free, queue_free, free_ring}
-use Rattle.vd_order_laws.proofs.OtherLines.{is_off, dev_off}
+use Rattle.vd_order_laws.proofs.OtherLines.{is_off, device_off}
 use Rattle.vd_disk_laws.proofs.PollReports.{IsUnreclaimed, AreUnreclaimed, stays_out, Polls_as, silent, reports, poll_does}
 use Rattle.vd_order_laws.proofs.OrderLaw.{control_acts}
 
@@ -62,8 +62,7 @@ off_mild (Queue act) e = cc
 off_mild _ e = refl
 
 offs_mild : (acts : List Act) → list_all is_off acts ≡ true → are_mild acts ≡ true
-offs_mild [] e = refl
-offs_mild (act ∷ acts) e = let p = and_parts (is_off act) (list_all is_off acts) e in ap (λ b. b && are_mild acts) (off_mild act p.0) ∙ offs_mild acts p.1
+offs_mild acts e = wider is_off is_mild off_mild acts e
 
 driver_unreclaimed : (q head : ℕ) (act : Act) → is_driver act ≡ true → IsUnreclaimed q head act
 driver_unreclaimed q head (Queue act) e = cc
@@ -165,12 +164,6 @@ module _ (x : Setting) (d : List ℕ) (q : ℕ) (g : History) (ring : Ring) (the
   mild_stays : (entry : Entry) (turn : List Act) → acts_of x (entry ∷ g) d ≡ turn ++ acts_of x g d → list_all is_off turn ≡ true → Stays entry
   mild_stays entry turn e off = stays_by entry turn e (mild_free q turn (offs_mild turn off)) (milds_unreclaimed q c.head turn (offs_mild turn off))
 
-  device_mild : (step : DevStep) → is_calm_line step ≡ true → list_all is_off (device_turn x seen_now step).acts ≡ true
-  device_mild step k = by seen_now.made where
-    by : (o : Option Creation) → list_all is_off (option_map_or (λ made. dev_turn x made seen_now step) o (refusal_turn Nodev)).acts ≡ true
-    by None = refl
-    by (Some made) = dev_off x made seen_now step k
-
   line_free : (failed : Bool) (step : QueueStep) → is_calm_queue_line step ≡ true → AreFree q (device_queue_turn x d seen_now failed step).acts
   line_free failed step k = by seen_now.made where
     by : (o : Option Creation) → AreFree q (option_map_or (λ made. queue_turn x made d seen_now failed step) o (refusal_turn Nodev)).acts
@@ -190,7 +183,7 @@ module _ (x : Setting) (d : List ℕ) (q : ℕ) (g : History) (ring : Ring) (the
   entry_stays (Device name step) failed k quiet = by (bytes_eq d name) refl (acts_of_device_on d name (device_turn x (device_view x name (deeds_of x g)) step).acts (deeds_of x g)) where
     by : (b : Bool) → bytes_eq d name ≡ b → acts_of_device d (map (On name) (device_turn x (device_view x name (deeds_of x g)) step).acts ++ deeds_of x g) ≡ (if b then (device_turn x (device_view x name (deeds_of x g)) step).acts else []) ++ acts_of_device d (deeds_of x g)
         → Stays (record { step = Device name step; failed = failed })
-    by true e f = mild_stays (record { step = Device name step; failed = failed }) (device_turn x seen_now step).acts (f ∙ ap (λ n. (device_turn x (device_view x n (deeds_of x g)) step).acts ++ acts_of_device d (deeds_of x g)) (sym (name_is d name e))) (device_mild step (k e))
+    by true e f = mild_stays (record { step = Device name step; failed = failed }) (device_turn x seen_now step).acts (f ∙ ap (λ n. (device_turn x (device_view x n (deeds_of x g)) step).acts ++ acts_of_device d (deeds_of x g)) (sym (name_is d name e))) (device_off x seen_now step)
     by false e f = mild_stays (record { step = Device name step; failed = failed }) [] f refl
   entry_stays (step_of.Queue name step) failed k quiet = by (bytes_eq d name) refl (acts_of_device_on d name (device_queue_turn x name (device_view x name (deeds_of x g)) failed step).acts (deeds_of x g)) where
     its : is_calm_queue_line step ≡ true → (step_of.Queue d step ≡ step_of.Queue d (queue.Poll q) → (told : List Item) → reply x g (step_of.Queue d (queue.Poll q)) failed ≡ Done (Word tag.Head ∷ Number c.head ∷ told) → ⊥)

@@ -1,9 +1,9 @@
 -- A daemon's lines make no act of a driver.
-use Rattle.std.proofs.Common.{◌≡◌, ℕ, Bool, true, false, refl, ap, ◌∙◌, Option, None, Some, List, [], ◌∷◌, ◌++◌, map, if◌then◌else◌}
+use Rattle.std.proofs.Common.{◌≡◌, ℕ, Bool, true, false, refl, ap, ◌∙◌, Option, None, Some, List, [], ◌∷◌, ◌++◌, if◌then◌else◌}
 use Rattle.std.specs.List.{list_all}
 use Rattle.std.specs.Str.{bytes_eq}
 use Rattle.std.specs.Option.{option_map_or}
-use Rattle.std.proofs.lemmas.Bool.{and_parts, and_from}
+use Rattle.std.proofs.lemmas.Bool.{and_parts}
 use Rattle.vd_num.specs.declared.errno.Errno.{Errno}
 use Rattle.vd_num.specs.declared.errno.Errno.TheVariants.{Nodev}
 use Rattle.vd_model.specs.declared.step.Step.{Step}
@@ -13,20 +13,21 @@ use Rattle.vd_model.specs.declared.step.DevStep.TheVariants as line
 use Rattle.vd_model.specs.declared.step.QueueStep.{QueueStep}
 use Rattle.vd_model.specs.declared.step.QueueStep.TheVariants as queue
 use Rattle.vd_model.specs.declared.step.NodeStep.{NodeStep}
-use Rattle.vd_model.specs.declared.step.NodeStep.TheVariants as node
 use Rattle.vd_model.specs.Setting.{Setting}
 use Rattle.vd_model.specs.Creation.{Creation}
-use Rattle.vd_model.specs.Acts.{Act, NodeAct, Node, Driver}
+use Rattle.vd_model.specs.Acts.{Act, Node, Driver}
 use Rattle.vd_model.specs.Puts.{Ram, last_put, ram}
-use Rattle.vd_model.specs.Turn.{Turn, refuse, refusal_turn, lift}
-use Rattle.vd_model.specs.Raw.{Ioctl, Plain_node, Plain_area, Find_entry, Find_info, Tell_features, ioctl_of}
-use Rattle.vd_model.specs.AreaTurns.{found_or, area_turn}
-use Rattle.vd_model.specs.NodeTurns.{plain_turn, ioctl_turn, open_node_turn}
+use Rattle.vd_model.specs.Turn.{Turn, refusal_turn, lift}
+use Rattle.vd_model.specs.AreaTurns.{area_turn}
+use Rattle.vd_model.specs.NodeTurns.{node_turn}
 use Rattle.vd_model.specs.Deeds.{Deed, acts_of_device, Seen, device_view}
 use Rattle.vd_model.specs.History.{History, deeds_of, disk_of, needs_session, dev_turn, queue_turn, device_turn, device_queue_turn, device_outcome, outcome}
+use Rattle.vd_line_acts.specs.LineActs.{is_node_line_act}
+use Rattle.vd_line_acts.proofs.Passing.{wider, lifted_pass, refuse_passes}
+use Rattle.vd_line_acts.proofs.NodeLines.{node_line}
 use Rattle.vd_laws.specs.Runs.{acts_of}
 use Rattle.vd_laws.specs.MemoryLaw.{is_daemons}
-use Rattle.vd_laws.proofs.Plain.{is_plain, IsPlain, node_plain}
+use Rattle.vd_laws.proofs.Plain.{is_plain, IsPlain}
 use Rattle.vd_laws.proofs.PlainQueues.{walk_plain, fetch_plain, execute_plain, finish_plain}
 use Rattle.vd_laws.proofs.Turns.{acts_of_device_on}
 
@@ -43,37 +44,19 @@ plain_other (Driver act) e = e
 plain_other _ e = refl
 
 plain_others : (acts : List Act) → list_all is_plain acts ≡ true → list_all is_other acts ≡ true
-plain_others [] e = refl
-plain_others (act ∷ acts) e =
-    let p = and_parts (is_plain act) (list_all is_plain acts) e in
-    and_from (is_other act) (list_all is_other acts) (plain_other act p.0) (plain_others acts p.1)
-
-node_others : (acts : List NodeAct) → list_all is_other (map Node acts) ≡ true
-node_others [] = refl
-node_others (act ∷ acts) = node_others acts
-
-refuse_others : (o : Option Errno) (turn : Turn Act) → IsOthers turn → IsOthers (refuse o turn)
-refuse_others None turn e = e
-refuse_others (Some errno) turn e = refl
+plain_others acts e = wider is_plain is_other plain_other acts e
 
 -- ---- the lines
 
-opened_others : (x : Setting) (made : Creation) (done : List Act) (step : NodeStep) → IsOthers (open_node_turn x made done step)
-opened_others x made done (node.Ioctl number bytes) = by (ioctl_of number bytes) where
-  by : (o : Option Ioctl) → IsOthers (ioctl_turn x made done o)
-  by None = refl
-  by (Some (Plain_node step)) = plain_others (plain_turn made done step).acts (node_plain made done step)
-  by (Some (Plain_area step)) = node_others (area_turn x done step).acts
-  by (Some (Find_entry start last)) = node_others (found_or x done start last _).acts
-  by (Some (Find_info start last)) = node_others (found_or x done start last _).acts
-  by (Some Tell_features) = refl
-opened_others x made done step = plain_others (plain_turn made done step).acts (node_plain made done step)
-
 area_others : (x : Setting) (made : Creation) (s : Seen) (step : _) → IsOthers (dev_turn x made s (line.Area step))
-area_others x made s step = refuse_others _ (lift Node (area_turn x s.acts step)) (node_others (area_turn x s.acts step).acts)
+area_others x made s step = refuse_passes is_other _ (lift Node (area_turn x s.acts step)) (lifted_pass is_other Node (λ act. refl) (area_turn x s.acts step).acts)
+
+node_other : (act : Act) → is_node_line_act act ≡ true → is_other act ≡ true
+node_other (Driver act) e = cc
+node_other _ e = refl
 
 node_line_others : (x : Setting) (made : Creation) (s : Seen) (step : NodeStep) → IsOthers (dev_turn x made s (line.Node step))
-node_line_others x made s step = refuse_others _ (open_node_turn x made s.acts step) (opened_others x made s.acts step)
+node_line_others x made s step = wider is_node_line_act is_other node_other (node_turn x made s.acts step).acts (node_line x made s.acts step)
 
 -- a turn on a device that is there, and else a refusal
 made_others : (turn : Creation → Turn Act) (o : Option Creation) (errno : Errno) → ((made : Creation) → IsOthers (turn made)) → IsOthers (option_map_or turn o (refusal_turn errno))
@@ -110,7 +93,7 @@ queue_ram g x done d name failed step k i e =
 
 -- the block daemon's turns
 session_others : (s : Seen) (turn : Turn Act) → IsPlain turn → IsOthers (needs_session s.acts turn)
-session_others s turn e = refuse_others _ turn (plain_others turn.acts e)
+session_others s turn e = refuse_passes is_other _ turn (plain_others turn.acts e)
 
 step_ram : (x : Setting) (done : List Deed) (d : List ℕ) (step : Step) (failed : Bool) → is_daemons step ≡ true
     → (k i : ℕ) → last_put x.per_page (acts_of_device d ((outcome x done step failed).deeds ++ done)) (Ram k i) ≡ last_put x.per_page (acts_of_device d done) (Ram k i)

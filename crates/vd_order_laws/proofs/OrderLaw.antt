@@ -34,7 +34,8 @@ use Rattle.vd_laws.proofs.Histories.{acts_of_device_other}
 use Rattle.vd_laws.proofs.Turns.{acts_of_device_on, acts_of_device_legal}
 use Rattle.vd_laws.proofs.Legal.{Legal}
 use Rattle.vd_ring_laws.proofs.Fair.{Fair}
-use Rattle.vd_ring_laws.proofs.Fairs.{fair_after, dev_mild}
+use Rattle.vd_ring_laws.proofs.Mild.{dev_mild}
+use Rattle.vd_ring_laws.proofs.Fairs.{fair_after}
 use Rattle.vd_ring_turns.proofs.CalmRings.{Calms}
 use Rattle.vd_order_laws.proofs.PlainLines.{plain_calms}
 use Rattle.vd_order_laws.proofs.OtherLines.{is_off}

@@ -17,9 +17,9 @@ use Rattle.vd_model.specs.Queues.{Ring, ring_of, added_count, chains_out, free_d
 use Rattle.vd_model.specs.Turn.{Turn, refusal_if}
 use Rattle.vd_model.specs.BusTurns.{is_missing}
 use Rattle.vd_model.specs.RingTurns.{ring_bytes, ring_at, made_ring_turn, is_ring_size, ring_turn, on_ring, unmap_act, unmap_acts, free_acts, request_end_acts, by_head, requests_end_acts, region_end_acts, unring_turn, descriptor_puts, slot_put, first_of, chain_acts, is_out_of_order, is_full, add_turn, publish_acts, publish_turn}
+use Rattle.vd_line_acts.proofs.Passing.{append_passes}
 use Rattle.vd_request_laws.specs.Owned.{AreOthers, AreOwn, AreOwned, pending_requests, is_quiet}
 use Rattle.vd_request_laws.proofs.Lists.{itself}
-use Rattle.vd_request_laws.proofs.QuietLines.{quiet_append}
 use Rattle.vd_request_laws.proofs.Standing.{queue_act, quiet_own}
 use Rattle.vd_request_laws.proofs.Requests.{IsOf, each_chain}
 use Rattle.vd_request_laws.proofs.Pending.{quiet_owned}
@@ -70,7 +70,7 @@ pub descriptors_quiet : (r : RingPlace) (parts : List Part) (ds : List ℕ) → 
 descriptors_quiet r [] ds = refl
 descriptors_quiet r (part ∷ parts) [] = refl
 descriptors_quiet r (part ∷ parts) (d ∷ []) = refl
-descriptors_quiet r (part ∷ parts) (d ∷ e ∷ ds) = quiet_append (descriptor_puts r parts (e ∷ ds)) _ (descriptors_quiet r parts (e ∷ ds)) refl
+descriptors_quiet r (part ∷ parts) (d ∷ e ∷ ds) = append_passes is_quiet (descriptor_puts r parts (e ∷ ds)) _ (descriptors_quiet r parts (e ∷ ds)) refl
 
 -- ---- the lines
 

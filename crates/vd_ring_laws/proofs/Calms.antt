@@ -39,11 +39,11 @@ use Rattle.vd_laws.proofs.Histories.{acts_of_device_other}
 use Rattle.vd_laws.proofs.Turns.{acts_of_device_on}
 use Rattle.vd_ring_laws.specs.ChainLaw.{have_descriptors}
 use Rattle.vd_ring_laws.specs.CalmLaw.{CalmLaw}
-use Rattle.vd_ring_laws.proofs.Mild.{is_mild, are_mild, drivers_are_mild, execute_mild}
+use Rattle.vd_ring_laws.proofs.Mild.{is_mild, are_mild, drivers_are_mild, dev_mild, execute_mild}
 use Rattle.vd_ring_laws.proofs.Drivers.{are_driver, append_driver, maps_driver, buffers_driver, request_puts_driver, used_event_driver, ended_driver}
 use Rattle.vd_ring_laws.proofs.Leaves.{refuse_is, option_is, fetch_is, finish_is, ring_is, submit_is, poll_is}
 use Rattle.vd_ring_laws.proofs.Fair.{is_put, put_mild, event_put, finish_put}
-use Rattle.vd_ring_laws.proofs.Fairs.{fair_after, dev_mild}
+use Rattle.vd_ring_laws.proofs.Fairs.{fair_after}
 use Rattle.vd_ring_laws.proofs.Outs.{apart_after}
 
 -- no ring is dropped, and each chain is that of a request and has a descriptor

@@ -1,15 +1,12 @@
 -- The acts of every history are fair.
-use Rattle.std.proofs.Common.{◌≡◌, ℕ, Bool, true, false, refl, subst, sym, cond, List, [], ◌∷◌, ◌++◌, ◌&&◌, map, not, Option, Some, None, inl, inr}
+use Rattle.std.proofs.Common.{◌≡◌, ℕ, Bool, true, false, refl, subst, sym, cond, List, [], ◌∷◌, ◌++◌, map, not, Option, Some, None, inl, inr}
 use Rattle.std.specs.Str.{bytes_eq}
 use Rattle.std.specs.Option.{option_map_or}
 use Rattle.vd_num.specs.declared.errno.Errno.{Errno}
-use Rattle.vd_num.specs.declared.errno.Errno.TheVariants.{Badf, Busy, Nodev}
+use Rattle.vd_num.specs.declared.errno.Errno.TheVariants.{Badf, Nodev}
 use Rattle.vd_model.specs.declared.step.Step.{Step}
 use Rattle.vd_model.specs.declared.step.Step.TheVariants.{Control, Device, Queue}
 use Rattle.vd_model.specs.declared.step.DevStep.{DevStep}
-use Rattle.vd_model.specs.declared.step.DevStep.TheVariants as line
-use Rattle.vd_model.specs.declared.step.NodeStep.{NodeStep}
-use Rattle.vd_model.specs.declared.step.NodeStep.TheVariants as node
 use Rattle.vd_model.specs.declared.step.QueueStep.{QueueStep}
 use Rattle.vd_model.specs.declared.step.QueueStep.TheVariants as queue
 use Rattle.vd_model.specs.declared.step.ControlStep.{ControlStep}
@@ -18,50 +15,27 @@ use Rattle.vd_model.specs.declared.answer.Answer.TheVariants.{Done}
 use Rattle.vd_model.specs.Setting.{Setting}
 use Rattle.vd_model.specs.Creation.{Creation}
 use Rattle.vd_model.specs.Live.{is_open, is_attached}
-use Rattle.vd_model.specs.Acts.{Act, Bus, State, Node, Driver, Attached, Opened}
+use Rattle.vd_model.specs.Acts.{Act, Bus, State, Node, Attached, Opened}
 use Rattle.vd_model.specs.State.{Max_set}
-use Rattle.vd_model.specs.Raw.{Ioctl, Plain_node, Plain_area, Find_entry, Find_info, Tell_features, ioctl_of, control_step}
-use Rattle.vd_model.specs.Turn.{Turn, refuse, refusal_turn, refusal_if, lift}
-use Rattle.vd_model.specs.AreaTurns.{area_turn, found_or}
-use Rattle.vd_model.specs.DriverTurns.{driver_turn}
-use Rattle.vd_model.specs.NodeTurns.{opens, ioctl_turn, open_node_turn}
+use Rattle.vd_model.specs.Raw.{control_step}
+use Rattle.vd_model.specs.Turn.{Turn, refuse, refusal_turn, refusal_if}
 use Rattle.vd_model.specs.DaemonTurns.{walk_turn, fetch_turn, execute_turn, finish_turn}
 use Rattle.vd_model.specs.RingTurns.{ring_turn, unring_turn, add_turn, publish_turn, submit_turn, poll_turn}
 use Rattle.vd_model.specs.Deeds.{Deed, Made, On, acts_of_device, clock, Seen, device_view}
 use Rattle.vd_model.specs.ControlTurns.{plain_creation, control_outcome}
-use Rattle.vd_model.specs.History.{History, deeds_of, outcome, needs_session, needs_bus, is_kept, needs_unkept, disk_of, dev_turn, queue_turn, device_turn, device_queue_turn}
+use Rattle.vd_model.specs.History.{History, deeds_of, outcome, needs_session, needs_bus, disk_of, dev_turn, queue_turn, device_turn, device_queue_turn}
 use Rattle.vd_laws.specs.Runs.{acts_of, IsMoment}
 use Rattle.vd_laws.proofs.IsolationLaw.{name_is, granted, raw_granted, control_granted, if_done_either, control_does}
 use Rattle.vd_laws.proofs.Histories.{acts_of_device_same, acts_of_device_other}
 use Rattle.vd_ring_laws.specs.ChainLaw.{ChainLaw}
 use Rattle.vd_ring_laws.specs.PositionLaw.{PositionLaw}
-use Rattle.vd_ring_laws.proofs.Mild.{Mild, refuse_mild, nodes_mild, drivers_mild, walk_mild, execute_mild}
-use Rattle.vd_ring_laws.proofs.Nodes.{node_mild, bus_mild}
+use Rattle.vd_ring_laws.proofs.Mild.{Mild, dev_mild, walk_mild, execute_mild}
 use Rattle.vd_ring_laws.proofs.Fair.{Fair, earlier_fair, mild_fair, fetch_fair, finish_fair}
 use Rattle.vd_ring_laws.proofs.Takes.{ring_fair, unring_fair, publish_fair, add_fair, submit_fair, poll_fair}
 use Rattle.vd_ring_laws.proofs.Outs.{apart_after}
 use Rattle.vd_ring_laws.proofs.Hands.{position_after}
 
--- ---- a line on a device
-
-opened_mild : (x : Setting) (made : Creation) (done : List Act) (step : NodeStep) → Mild (open_node_turn x made done step)
-opened_mild x made done (node.Ioctl number bytes) = by (ioctl_of number bytes) where
-  by : (o : Option Ioctl) → Mild (ioctl_turn x made done o)
-  by None = refl
-  by (Some (Plain_node step)) = node_mild made done step
-  by (Some (Plain_area step)) = nodes_mild (area_turn x done step).acts
-  by (Some (Find_entry start last)) = nodes_mild (found_or x done start last _).acts
-  by (Some (Find_info start last)) = nodes_mild (found_or x done start last _).acts
-  by (Some Tell_features) = refl
-opened_mild x made done step = node_mild made done step
-
-pub dev_mild : (x : Setting) (made : Creation) (s : Seen) (step : DevStep) → Mild (dev_turn x made s step)
-dev_mild x made s (line.Node step) = refuse_mild (refusal_if (not (opens step) && not (is_open s.acts)) Badf) (open_node_turn x made s.acts step) (opened_mild x made s.acts step)
-dev_mild x made s (line.Area step) = refuse_mild (refusal_if (not (is_open s.acts)) Badf) (lift Node (area_turn x s.acts step)) (nodes_mild (area_turn x s.acts step).acts)
-dev_mild x made s (line.Bus step) = bus_mild made s.now s.acts step
-dev_mild x made s (line.Driver step) =
-    refuse_mild (refusal_if (not (is_attached s.acts)) Nodev) (needs_unkept made s.acts step (lift Driver (driver_turn x s.acts step)))
-    (refuse_mild (refusal_if (is_kept made s.acts step) Busy) (lift Driver (driver_turn x s.acts step)) (drivers_mild (driver_turn x s.acts step).acts))
+-- ---- a line
 
 refusal_turn_fair : (done : List Act) (o : Option Errno) (turn : Turn Act) → Fair done → Fair (turn.acts ++ done) → Fair ((refuse o turn).acts ++ done)
 refusal_turn_fair done None turn fair h = h

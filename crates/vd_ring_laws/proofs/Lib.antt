@@ -3,7 +3,6 @@ pub mod CalmRuns
 pub mod CalmInstances
 pub mod Drivers
 pub mod Mild
-pub mod Nodes
 pub mod Leaves
 pub mod Fair
 pub mod Takes

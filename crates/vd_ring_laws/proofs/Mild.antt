@@ -1,19 +1,19 @@
 -- Lines that act on no queue's ring.
-use Rattle.std.proofs.Common.{◌≡◌, ℕ, ◌*◌, Bool, true, false, refl, ap, ◌∙◌, Option, None, Some, List, [], ◌∷◌, ◌++◌, ◌&&◌, map, if◌then◌else◌}
-use Rattle.std.specs.Prelude.{Result, Ok, Err}
+use Rattle.std.proofs.Common.{◌≡◌, ℕ, Bool, true, false, refl, ap, List}
 use Rattle.std.specs.List.{list_all}
-use Rattle.std.specs.Option.{option_map_or}
-use Rattle.std.proofs.lemmas.Bool.{and_parts}
-use Rattle.std.proofs.lemmas.List.Folds.{list_all-append}
-use Rattle.vd_num.specs.declared.errno.Errno.{Errno}
-use Rattle.vd_model.specs.declared.parts.Chain.{Chain}
 use Rattle.vd_model.specs.Setting.{Setting}
 use Rattle.vd_model.specs.Creation.{Creation}
-use Rattle.vd_model.specs.Acts.{Act, NodeAct, DriverAct, Stored, Executed, Node, Driver, Queue, Disk_act}
-use Rattle.vd_model.specs.Trace.{Ending, whole, faulty, missing}
-use Rattle.vd_model.specs.Turn.{Turn, refuse}
+use Rattle.vd_model.specs.Acts.{Act, Executed, Driver, Queue, Disk_act}
+use Rattle.vd_model.specs.Turn.{Turn}
 use Rattle.vd_model.specs.Block as block
-use Rattle.vd_model.specs.DaemonTurns as daemon
+use Rattle.vd_model.specs.DaemonTurns.{walk_turn, execute_turn}
+use Rattle.vd_model.specs.declared.step.DevStep.{DevStep}
+use Rattle.vd_model.specs.Deeds.{Seen}
+use Rattle.vd_model.specs.History.{dev_turn}
+use Rattle.vd_line_acts.specs.LineActs.{is_device_line_act, is_execute_act}
+use Rattle.vd_line_acts.proofs.Passing.{wider}
+use Rattle.vd_line_acts.proofs.DeviceLines.{device_line}
+use Rattle.vd_line_acts.proofs.DaemonLines.{walk_none, execute_line}
 use Rattle.vd_ring_laws.proofs.Drivers.{is_driver, are_driver}
 
 -- the act is none on a queue's ring, and takes no step of the block daemon's position
@@ -28,70 +28,33 @@ are_mild acts = list_all is_mild acts
 abbrev pub Mild : Turn Act → Type 0
 Mild turn = are_mild turn.acts ≡ true
 
--- ---- lists
-
-pub both : {b c : Bool} → b ≡ true → c ≡ true → (b && c) ≡ true
-both {b} {c} h k = ap (λ b. b && c) h ∙ k
-
-pub append_mild : (xs ys : List Act) → are_mild xs ≡ true → are_mild ys ≡ true → are_mild (xs ++ ys) ≡ true
-append_mild xs ys h k = list_all-append is_mild xs ys ∙ both h k
-
-pub nodes_mild : (acts : List NodeAct) → are_mild (map Node acts) ≡ true
-nodes_mild [] = refl
-nodes_mild (act ∷ acts) = nodes_mild acts
-
-pub drivers_mild : (acts : List DriverAct) → are_mild (map Driver acts) ≡ true
-drivers_mild [] = refl
-drivers_mild (act ∷ acts) = drivers_mild acts
+-- ---- the driver
 
 driver_is_mild : (act : Act) → is_driver act ≡ true → is_mild act ≡ true
 driver_is_mild (Driver act) e = refl
 driver_is_mild _ e = cc
 
 pub drivers_are_mild : (acts : List Act) → are_driver acts ≡ true → are_mild acts ≡ true
-drivers_are_mild [] e = refl
-drivers_are_mild (act ∷ acts) e = let p = and_parts (is_driver act) (are_driver acts) e in both (driver_is_mild act p.0) (drivers_are_mild acts p.1)
+drivers_are_mild acts e = wider is_driver is_mild driver_is_mild acts e
 
--- ---- turns
+-- ---- a line on a device
 
-pub refuse_mild : (o : Option Errno) (turn : Turn Act) → Mild turn → Mild (refuse o turn)
-refuse_mild None turn h = h
-refuse_mild (Some errno) turn h = refl
+device_is_mild : (act : Act) → is_device_line_act act ≡ true → is_mild act ≡ true
+device_is_mild (Queue act) e = cc
+device_is_mild _ e = refl
 
-pub option_mild : {X : Type 0} (turn : X → Turn Act) (o : Option X) (other : Turn Act) → ((x : X) → Mild (turn x)) → Mild other → Mild (option_map_or turn o other)
-option_mild turn None other h k = k
-option_mild turn (Some x) other h k = h x
-
-pub if_mild : (b : Bool) (turn other : Turn Act) → Mild turn → Mild other → Mild (if b then turn else other)
-if_mild true turn other h k = h
-if_mild false turn other h k = k
-
-if_acts_mild : (b : Bool) (xs ys : List Act) → are_mild xs ≡ true → are_mild ys ≡ true → are_mild (if b then xs else ys) ≡ true
-if_acts_mild true xs ys h k = h
-if_acts_mild false xs ys h k = k
-
-read_mild : {X : Type 0} (r : Result X ℕ) (turn : X → Turn Act) → ((x : X) → Mild (turn x)) → Mild (daemon.read_or r turn)
-read_mild (Ok x) turn h = h x
-read_mild (Err at) turn h = refl
-
-chain_mild : (e : Ending) (turn : Chain → Turn Act) → ((chain : Chain) → Mild (turn chain)) → Mild (daemon.chain_or e turn)
-chain_mild (whole chain) turn h = h chain
-chain_mild (faulty fault) turn h = refl
-chain_mild (missing at) turn h = refl
+pub dev_mild : (x : Setting) (made : Creation) (s : Seen) (step : DevStep) → Mild (dev_turn x made s step)
+dev_mild x made s step = wider is_device_line_act is_mild device_is_mild (dev_turn x made s step).acts (device_line x made s step)
 
 -- ---- the block daemon
 
-pub walk_mild : (x : Setting) (made : Creation) (done : List Act) (q head : ℕ) → Mild (daemon.walk_turn x made done q head)
-walk_mild x made done q head = search (refuse_mild, chain_mild)
+pub walk_mild : (x : Setting) (made : Creation) (done : List Act) (q head : ℕ) → Mild (walk_turn x made done q head)
+walk_mild x made done q head = ap are_mild (walk_none x made done q head)
 
-stored_mild : (b : block.Block) (result : block.RequestResult) → are_mild (daemon.store_acts b result) ≡ true
-stored_mild b result = by result.stores where
-  by : (c : Bool) → are_mild (if c then Disk_act (Stored (512 * b.sector) b.payload) ∷ [] else []) ≡ true
-  by true = refl
-  by false = refl
+execute_is_mild : (act : Act) → is_execute_act act ≡ true → is_mild act ≡ true
+execute_is_mild (Disk_act act) e = refl
+execute_is_mild (Queue (Executed q status bytes)) e = refl
+execute_is_mild _ e = cc
 
-executed_mild : (q : ℕ) (b : block.Block) (result : block.RequestResult) → Mild (daemon.executed_turn q b result)
-executed_mild q b result = append_mild (daemon.store_acts b result) (Queue (Executed q result.status result.bytes) ∷ []) (stored_mild b result) refl
-
-pub execute_mild : (x : Setting) (made : Creation) (disk : block.Disk) (failed : Bool) (done : List Act) (q : ℕ) → Mild (daemon.execute_turn x made disk failed done q)
-execute_mild x made disk failed done q = search (refuse_mild, option_mild, executed_mild)
+pub execute_mild : (x : Setting) (made : Creation) (disk : block.Disk) (failed : Bool) (done : List Act) (q : ℕ) → Mild (execute_turn x made disk failed done q)
+execute_mild x made disk failed done q = wider is_execute_act is_mild execute_is_mild (execute_turn x made disk failed done q).acts (execute_line x made disk failed done q)

@@ -16,8 +16,10 @@ use Rattle.vd_top.specs.Executes.{AreFailures, AreUpTo}
 use Rattle.vd_top.specs.Pictures.{Shown, ImageAt}
 use Rattle.vd_loop.specs.Replies.{Cut}
 use Rattle.vd_loop.specs.Written.{Appended}
-use Rattle.vd_top.specs.Written.{AppendedLines, StopsBy, WritesBy, stop_of_status, is_status}
-use Rattle.vd_top.specs.Played.{IsSetting, Played, PlayedTo, PlayedCut, line_of, most_of, status_of}
+use Rattle.vd_loop.specs.Statuses.{stop_of_status, is_status}
+use Rattle.vd_top.specs.Written.{AppendedLines, StopsBy, WritesBy}
+use Rattle.vd_loop.specs.Statuses.{line_of, status_of}
+use Rattle.vd_top.specs.Played.{IsSetting, Played, PlayedTo, PlayedCut, most_of}
 use Rattle.vd_top.proofs.Waits.{all_written, lines_of}
 use Rattle.vd_top.proofs.Halts.{cut_to}
 

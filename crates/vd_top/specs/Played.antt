@@ -25,12 +25,6 @@ Says Bad read = read ≡ None
 Says Nothing read = read ≡ Some None
 Says (Asks step) read = read ≡ Some (Some step)
 
--- no fault of the source or of the sink
-abbrev pub is_own : Stop → Bool
-is_own SourceFailed = false
-is_own SinkFailed = false
-is_own _ = true
-
 -- ---- one line
 
 -- the reply to a line at which the image failed or not, and the engine stands for the history with it
@@ -156,18 +150,3 @@ Played text SinkFailed lines engine new left held later size before after = Play
 Played text stop lines engine new left held later size before after = PlayedTo text stop lines engine new left held later size before after
 
 -- ---- statuses
-
--- the status of each stop
-abbrev pub status_of : Stop → ℕ
-status_of End = 0
-status_of SourceFailed = 3
-status_of SinkFailed = 4
-status_of Memory = 5
-status_of BadLine = 6
-status_of TooLong = 7
-
--- the line at which a run stopped, 0 where no line stopped it
-abbrev pub line_of : Stop → ℕ → ℕ
-line_of BadLine lines = lines + 1
-line_of TooLong lines = lines + 1
-line_of _ lines = 0

@@ -34,19 +34,6 @@ pub record AppendedLines (x : Setting) (text failures : List ℕ) (lines : ℕ) 
   pub written : Appended old new (replies x text failures lines)
   pub front : AppendedFront old new (script_output x text failures)
 
--- the stop of each status
-abbrev pub stop_of_status : ℕ → Stop
-stop_of_status n =
-    if n == 0 then End else (if n == 3 then SourceFailed else (if n == 4 then SinkFailed else (if n == 6 then BadLine else (if n == 7 then TooLong else Memory))))
-
--- a status that a script can end with
-abbrev pub is_status : ℕ → Bool
-is_status n = (n == 0) || nat_le 3 n && nat_le n 7
-
--- a status that names the line at which the run stopped
-abbrev pub is_line_status : ℕ → Bool
-is_line_status n = (n == 6) || (n == 7)
-
 -- of the bytes that were taken, the lines that an LF ends are the first so many of those that are answered
 pub record TakenTo (text : List ℕ) (lines : ℕ) (left : Option (List ℕ)) : Type 0 where
   pub there : lines ≤ length (good_lines text)

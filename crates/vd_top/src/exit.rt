@@ -8,8 +8,9 @@ ghost use Rattle.vd_device.specs.Sizes.{AreFit, IsSized};
 ghost use Rattle.vd_engine.specs.Image.{IsImage};
 ghost use Rattle.vd_top.specs.Executes.{AreFailures, AreUpTo, RoseBy, executes};
 ghost use Rattle.vd_top.specs.Pictures.{ImageAt, shown};
-ghost use Rattle.vd_top.specs.Written.{StopsBy, WritesBy, stop_of_status, is_status, is_line_status};
-ghost use Rattle.vd_top.specs.Played.{status_of, line_of, is_own};
+ghost use Rattle.vd_loop.specs.Statuses.{stop_of_status, is_status, is_line_status};
+ghost use Rattle.vd_top.specs.Written.{StopsBy, WritesBy};
+ghost use Rattle.vd_loop.specs.Statuses.{status_of, line_of, is_own};
 
 use crate::script::{Responder, play};
 use std::alloc::Global;

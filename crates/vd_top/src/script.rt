@@ -9,7 +9,8 @@ ghost use Rattle.vd_engine.specs.Machine.{StandsFor, IsReached};
 ghost use Rattle.vd_top.specs.Executes.{RoseBy, executes, is_execute_line};
 ghost use Rattle.vd_top.specs.Pictures.{shown};
 ghost use Rattle.vd_loop.specs.Replies.{Cut, Flushed};
-ghost use Rattle.vd_top.specs.Played.{Answered, StoppedBy, Played, is_own};
+ghost use Rattle.vd_loop.specs.Statuses.{is_own};
+ghost use Rattle.vd_top.specs.Played.{Answered, StoppedBy, Played};
 
 use crate::grammar::{Line, read_line};
 use crate::player::Player;

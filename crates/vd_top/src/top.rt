@@ -11,7 +11,8 @@ ghost use Rattle.vd_top.specs.Asked.{HasSizes, IsGiven};
 ghost use Rattle.vd_top.specs.Executes.{AreFailures, AreUpTo, RoseBy, executes};
 ghost use Rattle.vd_top.specs.Pictures.{ImageAt, shown};
 ghost use Rattle.vd_top.specs.RunLaws.{RunLaws};
-ghost use Rattle.vd_top.specs.Written.{StopsBy, WritesBy, stop_of_status, is_status, is_line_status};
+ghost use Rattle.vd_loop.specs.Statuses.{stop_of_status, is_status, is_line_status};
+ghost use Rattle.vd_top.specs.Written.{StopsBy, WritesBy};
 
 use crate::exit::{run, sizes_of};
 use std::alloc::Global;

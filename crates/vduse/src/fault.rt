@@ -1,7 +1,7 @@
 //! Why a program ended with another status than 0, as one line for standard error.
 
 ghost use Rattle.std.specs.Prelude.{◌≡◌, ◌⊎◌, MatchOption, true};
-ghost use Rattle.vd_top.specs.Written.{is_status};
+ghost use Rattle.vd_loop.specs.Statuses.{is_status};
 ghost use Rattle.vduse.specs.Faults.{status_of};
 
 use std::io;

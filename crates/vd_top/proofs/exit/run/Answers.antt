@@ -5,8 +5,9 @@ use Rattle.vd_top.specs.Executes.{RoseBy}
 use Rattle.vd_top.specs.Pictures.{shown, ImageAt}
 use Rattle.vd_loop.specs.Replies.{Cut}
 use Rattle.vd_loop.specs.Written.{Appended}
-use Rattle.vd_top.specs.Written.{is_status, stop_of_status}
-use Rattle.vd_top.specs.Played.{Played, line_of, status_of}
+use Rattle.vd_loop.specs.Statuses.{is_status, stop_of_status}
+use Rattle.vd_loop.specs.Statuses.{line_of, status_of}
+use Rattle.vd_top.specs.Played.{Played}
 use Rattle.vd_top.proofs.Failures.{failures_gone}
 use Rattle.vd_top.proofs.Ends.{Ends, ends_by, ends_written, ends_sink, ends_cut, known_status, status_three, status_four}
 use Rattle.vd_top.proofs.exit.run.Goals as goal
