@@ -30,8 +30,14 @@ impl Engine {
             self.old self.new result }
     {
         match step {
-            ControlStep::Version => told.fields(&[Item::Number(0)]),
-            ControlStep::SetVersion { version } => tell(told, check_version(*version)),
+            ControlStep::Version => {
+                told.fields(&[Item::Number(0)]);
+                Ok(())
+            }
+            ControlStep::SetVersion { version } => {
+                tell(told, check_version(*version));
+                Ok(())
+            }
             ControlStep::Create {
                 name,
                 vendor,
@@ -50,21 +56,26 @@ impl Engine {
                     vq_align: *align,
                     config: Bytes::from_vec(Vec::from_slice(self.alloc, config.as_slice())?),
                 };
-                self.create(config, told)?;
+                self.create(config, told)
             }
-            ControlStep::Destroy { name } => self.destroy(name.as_slice(), told),
-            ControlStep::Dev { name } => self.dev(name.as_slice(), told)?,
-            ControlStep::Control { number, bytes } => self.raw(*number, bytes.as_slice(), told)?,
-            ControlStep::Tick { seconds } => self.tick(*seconds, told),
+            ControlStep::Destroy { name } => {
+                self.destroy(name.as_slice(), told);
+                Ok(())
+            }
+            ControlStep::Dev { name } => self.dev(name.as_slice(), told),
+            ControlStep::Control { number, bytes } => self.raw(*number, bytes.as_slice(), told),
+            ControlStep::Tick { seconds } => {
+                self.tick(*seconds, told);
+                Ok(())
+            }
             ControlStep::Image { name, first, count } => {
                 let window = Window {
                     first: *first,
                     count: *count,
                 };
-                self.image(name.as_slice(), window, told)?;
+                self.image(name.as_slice(), window, told)
             }
         }
-        Ok(())
     }
 
     /// Makes a device.

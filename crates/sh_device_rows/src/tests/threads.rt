@@ -27,12 +27,18 @@ fn a_session_of_one_driver(rt: HostRuntime) -> Result<(), Fail> {
 }
 
 #[test]
+fn a_message_between_two_threads(rt: HostRuntime) -> Result<(), Fail> {
+    let (new, driver) = NewDevice::new(rt.alloc(), 4, 8, 30)?;
+    one_message::<Brand, _>(&rt, new, driver)
+}
+
+#[test]
 fn a_daemon_loads_while_a_driver_maps(rt: HostRuntime) -> Result<(), Fail> {
     let (new, driver) = NewDevice::new(rt.alloc(), 4, 8, 30)?;
     rounds::<Brand, _>(&rt, new, driver)
 }
 
-fn session<N: Naming + Send + Sync, R: Threads + Wait + Abort + Sync>(
+fn session<N: Naming, R: Wait + Abort>(
     rt: &R,
     new: NewDevice,
     mut driver: DriverPass,
@@ -51,7 +57,7 @@ fn session<N: Naming + Send + Sync, R: Threads + Wait + Abort + Sync>(
     outcome
 }
 
-fn all_calls<N: Naming + Send + Sync, R: Threads + Wait + Abort + Sync>(
+fn all_calls<N: Naming, R: Wait + Abort>(
     rt: &R,
     device: &Device<N>,
     driver: &mut DriverPass,
@@ -66,8 +72,24 @@ fn all_calls<N: Naming + Send + Sync, R: Threads + Wait + Abort + Sync>(
     mapping_to_the_device(rt, device, driver, daemon)?;
     mapping_of_both(rt, device, driver, daemon)?;
     regions(rt, device, driver)?;
-    registrations(rt, device, driver)?;
-    messages(rt, device)
+    registrations(rt, device, driver)
+}
+
+fn one_message<N: Naming + Send + Sync, R: Threads + Wait + Abort + Sync>(
+    rt: &R,
+    new: NewDevice,
+    driver: DriverPass,
+) -> Result<(), Fail>
+    requires pass { IsOf new.cells driver × (view driver ≡ all_stamps) }
+    requires domain { (new.domain.table ≡ N.domain) × (new.domain.bounce ≡ N.numbers.bounce)
+        × (new.domain.pages ≡ N.numbers.pages) }
+    requires messages { (new.messages.table ≡ N.messages) × (new.messages.timeout ≡ N.numbers.timeout) }
+    requires few { N.numbers.bounce ≤ 4096 }
+{
+    let device = new.named::<N>();
+    let outcome = messages(rt, &device);
+    let _closed = device.close(driver);
+    outcome
 }
 
 fn map_one<N: Naming>(

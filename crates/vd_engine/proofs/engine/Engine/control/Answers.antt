@@ -14,7 +14,7 @@ returns-in_ok-from_slice-in-Create-2 g c =
     ∙ ap (λ b. create_outcome done c.from_vec.result line.device line.features line.queues line.align b) config) c.create.ensures
 
 pub returns-in-Destroy : goal.returns-in-Destroy
-returns-in-Destroy g c = may_do_ok (λ x done. ap (control_outcome x done) c.in-Destroy.is ∙ ap (λ n. destroy_outcome done n) (sym c.as_slice-in-Destroy.ensures)) c.destroy.ensures
+returns-in-Destroy g c = may_do_ok (λ x done. ap (control_outcome x done) c.in-Destroy.is ∙ ap (λ n. destroy_outcome done n) (sym c.as_slice-in-Destroy.ensures)) c.destroy.ensures.line
 
 pub returns-in-Dev : goal.returns-in-Dev
 returns-in-Dev g c = may_do_as (λ x done. ap (control_outcome x done) c.in-Dev.is ∙ ap (λ n. dev_outcome done n) (sym c.as_slice-in-Dev.ensures)) c.dev.ensures
