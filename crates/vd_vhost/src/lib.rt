@@ -13,6 +13,3 @@ mod vhost;
 
 pub use vd_vhost_model::{Spans, VhostAnswer, VhostStep};
 pub use vhost::Vhost;
-
-#[cfg(test)]
-mod tests;

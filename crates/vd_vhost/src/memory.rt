@@ -1,6 +1,6 @@
 //! The steps on the guest's memory.
 
-ghost use Rattle.std.specs.Prelude.{◌≡◌, ◌++◌, ℕ, List};
+ghost use Rattle.std.specs.Prelude.{◌≡◌, ◌++◌, ℕ, List, IfOk, IfSome};
 ghost use Rattle.vd_vhost_model.specs.GuestTable.{VhostAct};
 ghost use Rattle.vd_vhost_model.specs.VhostTurns.{denied_answer, found_turn, guest_poke_turn, guest_peek_turn, guest_load_turn, guest_store_turn, guest_lookup_turn};
 ghost use Rattle.vd_vhost.specs.Told.{Says, Tells, MayTell, TellsOrDenies, MayTellOrDeny};
@@ -15,7 +15,8 @@ use vd_vhost_model::Denied;
 /// Tells a bus fault. The address at which a permission is missing is handed out.
 fn tell_denied<T: Hears>(why: Denied, told: &mut T) -> Option<u64>
     requires { T.is_ready told.old }
-    ensures { Says (λ said. T.heard told.old said told.new) (told.new ≡ told.old) (denied_answer why) result }
+    ensures says { Says (λ said. T.heard told.old said told.new) (told.new ≡ told.old) (denied_answer why) result }
+    ensures quiet { IfSome result (λ _. told.new ≡ told.old) }
 {
     match why {
         Denied::Bus { at } => {
@@ -88,6 +89,7 @@ impl Bus {
             MayTellOrDeny (λ said. T.heard told.old said told.new) (told.new ≡ told.old) (guest_load_turn done at len)
             (λ acts. IsAfter size (acts ++ done) (parts_of self.new)) result }
         ensures same { parts_of self.new ≡ parts_of self.old }
+        ensures quiet { IfOk result (λ denied. IfSome denied (λ _. told.new ≡ told.old)) }
     {
         self.shown.clear();
         match self.guest.load(at, len, &mut self.shown)? {
@@ -102,9 +104,10 @@ impl Bus {
     /// Writes through the table.
     pub fn store<T: Hears>(&mut self, at: u64, bytes: &[u8], told: &mut T) -> Option<u64>
         requires { T.is_ready told.old }
-        ensures { (size : ℕ) (done : List VhostAct) → IsAfter size done (parts_of self.old) →
+        ensures line { (size : ℕ) (done : List VhostAct) → IsAfter size done (parts_of self.old) →
             TellsOrDenies (λ said. T.heard told.old said told.new) (told.new ≡ told.old) (guest_store_turn done at bytes.now)
             (λ acts. IsAfter size (acts ++ done) (parts_of self.new)) result }
+        ensures quiet { IfSome result (λ _. told.new ≡ told.old) }
     {
         match self.guest.store(at, bytes) {
             Some(why) => tell_denied(why, told),

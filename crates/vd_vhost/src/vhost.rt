@@ -1,6 +1,6 @@
 //! The bus, one step at a time.
 
-ghost use Rattle.std.specs.Prelude.{◌≡◌, ◌≤◌, ◌++◌, [], ℕ, List, IfOk, OnErr, MatchResult};
+ghost use Rattle.std.specs.Prelude.{◌≡◌, ◌≤◌, ◌++◌, [], ℕ, List, IfOk, IfSome, OnErr, MatchResult};
 ghost use Rattle.vd_vhost_model.specs.GuestTable.{VhostAct};
 ghost use Rattle.vd_vhost_model.specs.VhostTurns.{vhost_turn};
 ghost use Rattle.vd_vhost.specs.Told.{MayTellOrDeny};
@@ -53,6 +53,9 @@ impl Vhost {
         ensures line { (size : ℕ) (done : List VhostAct) → IsAfter size done self.old →
             MayTellOrDeny (λ said. T.heard told.old said told.new) (told.new ≡ told.old) (vhost_turn size done step.now)
             (λ acts. IsAfter size (acts ++ done) self.new) result }
+
+        // Nothing is told where an address is handed out, whatever the bus stands for.
+        ensures quiet { IfOk result (λ denied. IfSome denied (λ _. told.new ≡ told.old)) }
         ensures err { OnErr result (self.new ≡ self.old) }
     {
         match step {

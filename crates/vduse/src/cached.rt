@@ -4,6 +4,7 @@ ghost use Rattle.std.specs.Prelude.{◌≡◌, true};
 ghost use Rattle.blk_disk.specs.Moments.{AreSingle};
 
 use crate::fault::Fault;
+use crate::grammar::Grammar;
 use crate::open_file;
 use crate::quote::Quoting;
 use blk_disk::Disk;
@@ -21,10 +22,7 @@ fn run_over<D: Disk + Drop>(rt: &HostRuntime, words: &Vec<String>, disk: D) -> O
     let mut source = Quoting::new(rt.alloc(), StdSource::new(rt.stdin()));
     let mut sink = StdSink::new(rt.stdout());
     let exit = cached_top(rt.alloc(), words, &mut source, &mut sink, disk).exit;
-    let quote = match exit.status {
-        6 => source.quote(rt.alloc()),
-        _ => String::new(rt.alloc()),
-    };
+    let quote = source.quote_at(rt.alloc(), exit.status, Grammar::Script);
     Fault::of_exit(&exit, quote)
 }
 

@@ -7,14 +7,14 @@ ghost use Rattle.vduse.specs.Faults.{status_of};
 use std::io;
 use std::process::ExitCode;
 use thiserror::Error;
-use vd_top::Exit;
+use vd_loop::Exit;
 
-/// Why a program ended before its script was answered whole. Lines count from 1, comments and empty lines included.
+/// Why a program ended before its lines were answered whole. Lines count from 1, comments and empty lines included.
 #[derive(Debug, Drop, Error)]
 pub enum Fault {
-    #[error("usage: vduse run|cached LINES [--page P] [--bounce-pages N] [--iova-pages N] [--sectors N | --image PATH] < SCRIPT")]
+    #[error("usage: vduse run|cached LINES [--page P] [--bounce-pages N] [--iova-pages N] [--sectors N | --image PATH] < SCRIPT, vduse queue packed SIZE, or vduse vhost BYTES; see vduse help")]
     Usage,
-    #[error("cannot read the script after line {0}")]
+    #[error("cannot read the lines after line {0}")]
     Read(u64),
     #[error("cannot write the replies after that of line {0}")]
     Write(u64),
@@ -22,7 +22,7 @@ pub enum Fault {
     Memory(u64),
     #[error("line {0}: not in the grammar{1}")]
     Grammar(u64, String),
-    #[error("line {0}: longer than 65536 bytes, or the script is longer than 67108864")]
+    #[error("line {0}: longer than 65536 bytes, or all lines are longer than 67108864")]
     Long(u64),
     #[error("cannot open the image: {0}")]
     Image(io::Error),
@@ -35,7 +35,7 @@ pub enum Fault {
 }
 
 impl Fault {
-    /// Why a script ended so; none where it was answered whole. The quote is what follows the message on a line that isn't in the grammar.
+    /// Why a program ended so; none where all lines were answered. The quote is what follows the message on a line that isn't in the grammar.
     pub fn of_exit(exit: &Exit, quote: String) -> Option<Fault>
         ensures { (is_status exit.now.status ≡ true) ⊎ (exit.now.status ≡ 2) ⊎ (exit.now.status ≡ 9) →
             MatchOption result (exit.now.status ≡ 0) (λ fault. status_of fault ≡ exit.now.status) }

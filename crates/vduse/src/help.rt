@@ -1,4 +1,4 @@
-//! What `vduse --help`, `vduse help run` and `vduse --version` write.
+//! What `vduse --help`, `vduse help PROGRAM` and `vduse --version` write.
 
 use std::process::ExitCode;
 
@@ -7,6 +7,8 @@ use std::process::ExitCode;
 pub enum Help {
     Programs,
     Run,
+    Queue,
+    Guest,
     Version,
 }
 
@@ -15,7 +17,9 @@ vduse - the kernel side of VDUSE and a block daemon, as a script asks them
 
 usage: vduse run [OPTIONS] < SCRIPT            answers each line of a script by one line
        vduse cached LINES [OPTIONS] < SCRIPT   the same over a write-back cache of LINES dirty sectors
-       vduse help run                          says the options, limits and statuses of both
+       vduse queue packed SIZE < LINES         the same of the two sides of one virtqueue
+       vduse vhost BYTES < LINES               the same of a guest's memory behind a table of regions
+       vduse help run|queue|vhost              says the words, limits and statuses (run: of cached too)
        vduse --version
 
 Try: vduse run < examples/first.script
@@ -43,6 +47,24 @@ status 0  every line was answered
        9  every line was answered, and then the last flush of the cache failed
 A refused line (err N, bus A) does not end a run. Why a run ended is said on standard error.";
 
+const QUEUE: &str = "\
+usage: vduse queue packed SIZE < LINES
+
+Both sides of one virtqueue of SIZE descriptors, a power of two from 1 to 32768. A line a call:
+
+  add PART..      the driver makes a chain of 1 to 64 parts available: r:ADDRESS:LENGTH or w:ADDRESS:LENGTH
+  next            the device takes the oldest chain that waits
+  used NUMBER LEN the device gives a chain back, with so many bytes written
+  reclaim         the driver takes back the chain that was used first
+
+Numbers, limits and statuses are those of vduse run: vduse help run.";
+
+const GUEST: &str = "\
+usage: vduse vhost BYTES < LINES
+
+A guest's memory of 1 to 67108864 bytes, and a daemon that accesses it by a table of regions with permissions.
+The lines: docs/RUNNING.md. Numbers, limits and statuses are those of vduse run: vduse help run.";
+
 const VERSION: &str = "vduse 0.1.0 (VDUSE of Linux 6.1, virtio 1.2)";
 
 /// What these words ask for, if they ask for help and not for a run.
@@ -55,6 +77,8 @@ pub fn asked(words: &Vec<String>) -> Option<Help> {
         },
         2 => match (words[0].as_str(), words[1].as_str()) {
             ("help", "run") | ("run", "--help") => Some(Help::Run),
+            ("help", "queue") | ("queue", "--help") => Some(Help::Queue),
+            ("help", "vhost") | ("vhost", "--help") => Some(Help::Guest),
             _ => None,
         },
         _ => None,
@@ -66,6 +90,8 @@ pub fn print(rt: &HostRuntime, help: Help) -> ExitCode {
     let text = match help {
         Help::Programs => PROGRAMS,
         Help::Run => RUN,
+        Help::Queue => QUEUE,
+        Help::Guest => GUEST,
         Help::Version => VERSION,
     };
     match println!(rt; "{text}") {

@@ -1,8 +1,8 @@
-//! `vduse run`: reads a script on standard input, and writes the reply to each of its lines on
-//! standard output.
+//! `vduse`: reads lines on standard input, and writes the reply to each on standard output; `run` and `cached` read a
+//! script, `queue` the lines of one virtqueue, `vhost` those of a guest's memory.
 //!
-//! It passes its words, standard input and output, and an image to `script_top`, whose contract says
-//! what is written, and ends with the status that it answers: 0 where every line was answered, 2 for
+//! It passes its words, standard input and output, and an image or a disk to `script_top`, `cached_top`, `queue_top` or
+//! `vhost_top`, whose contracts say what is written, and ends with the status that it answers: 0 where every line was answered, 2 for
 //! other words, 3 and 4 where input or output failed, 5 without memory, 6 at a line that is not in
 //! the grammar, 7 past a limit. The image is in memory or in a file, as the words say; where that
 //! file can't be opened, the status is 8, and nothing is read. Another status than 0 is explained by
@@ -11,10 +11,12 @@
 
 mod cached;
 mod fault;
+mod grammar;
 mod help;
 mod quote;
 
 use fault::{Fault, told};
+use grammar::Grammar;
 use quote::Quoting;
 use std::fs::{File, OpenOptions};
 use std::io::ErrorKind;
@@ -23,7 +25,9 @@ use std::rt::Env;
 use std::{env, io, str};
 use vd_io::{FileImage, Image, MemImage, StdSink, StdSource};
 use vd_num::Lines;
+use vd_queue_top::queue_top;
 use vd_top::{WordsError, read_words, script_top};
+use vd_vhost_top::vhost_top;
 
 /// The words after the program's name.
 fn words<R: Env + AllocGlobal>(rt: &R) -> io::Result<Vec<String>> {
@@ -56,10 +60,25 @@ fn run<I: Image + Drop>(rt: &HostRuntime, words: &Vec<String>, mut disk: I) -> O
     let mut source = Quoting::new(rt.alloc(), StdSource::new(rt.stdin()));
     let mut sink = StdSink::new(rt.stdout());
     let exit = script_top(rt.alloc(), words, &mut source, &mut sink, &mut disk);
-    let quote = match exit.status {
-        6 => source.quote(rt.alloc()),
-        _ => String::new(rt.alloc()),
-    };
+    let quote = source.quote_at(rt.alloc(), exit.status, Grammar::Script);
+    Fault::of_exit(&exit, quote)
+}
+
+/// Answers the lines of standard input on a queue.
+fn run_queue(rt: &HostRuntime, words: &Vec<String>) -> Option<Fault> {
+    let mut source = Quoting::new(rt.alloc(), StdSource::new(rt.stdin()));
+    let mut sink = StdSink::new(rt.stdout());
+    let exit = queue_top(rt.alloc(), words, &mut source, &mut sink);
+    let quote = source.quote_at(rt.alloc(), exit.status, Grammar::Queue);
+    Fault::of_exit(&exit, quote)
+}
+
+/// Answers those on a guest's memory behind a table of regions.
+fn run_guest(rt: &HostRuntime, words: &Vec<String>) -> Option<Fault> {
+    let mut source = Quoting::new(rt.alloc(), StdSource::new(rt.stdin()));
+    let mut sink = StdSink::new(rt.stdout());
+    let exit = vhost_top(rt.alloc(), words, &mut source, &mut sink);
+    let quote = source.quote_at(rt.alloc(), exit.status, Grammar::Guest);
     Fault::of_exit(&exit, quote)
 }
 
@@ -95,6 +114,8 @@ fn run_script(rt: &HostRuntime, words: &Vec<String>) -> Option<Fault> {
 fn run_words(rt: &HostRuntime, words: &Vec<String>) -> Option<Fault> {
     match words.first().map(String::as_str) {
         Some("cached") => cached::run(rt, words),
+        Some("queue") => run_queue(rt, words),
+        Some("vhost") => run_guest(rt, words),
         _ => run_script(rt, words),
     }
 }

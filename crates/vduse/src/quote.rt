@@ -3,10 +3,10 @@
 ghost use Rattle.std.specs.Prelude.{◌≡◌, ◌≤◌, ◌<◌, List, ℕ, Option, IfOk, OnErr, length};
 ghost use Rattle.vd_io.specs.Told.{HasCause, Pulled};
 
+use crate::grammar::Grammar;
 use memchr::memrchr;
 use std::alloc::Global;
 use vd_io::{Failed, Source};
-use vd_script::{LineError, read_line};
 
 /// How many bytes of a line are shown.
 const SHOWN: usize = 80;
@@ -31,19 +31,22 @@ impl<S: Source> Quoting<S> {
 
     /// The first line that isn't in the grammar, if it is still here: the lines before it were answered, so that is the line at which a run
     /// stopped with status 6.
-    fn refused_line(&self, alloc: Global) -> Option<&[u8]> {
-        let mut scratch = Vec::new(alloc);
+    fn refused_line(&self, alloc: Global, grammar: Grammar) -> Option<&[u8]> {
         for line in self.kept.split(|byte| *byte == b'\n') {
-            if let Err(LineError::Bad) = read_line(alloc, &mut scratch, line) {
+            if grammar.refuses(alloc, line) {
                 return Some(line);
             }
         }
         None
     }
 
-    /// What follows a message on that line: a colon and its first bytes, the unprintable ones escaped; nothing where it isn't here.
-    pub fn quote(&self, alloc: Global) -> String {
-        let line = self.refused_line(alloc).unwrap_or(b"");
+    /// What follows a message on that line: a colon and its first bytes, the unprintable ones escaped; nothing where it isn't here,
+    /// or at another status.
+    pub fn quote_at(&self, alloc: Global, status: u8, grammar: Grammar) -> String {
+        if status != 6 {
+            return String::new(alloc);
+        }
+        let line = self.refused_line(alloc, grammar).unwrap_or(b"");
         let front = &line[..line.len().min(SHOWN)];
         if front.is_empty() {
             return String::new(alloc);

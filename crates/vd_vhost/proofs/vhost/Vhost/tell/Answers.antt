@@ -6,7 +6,7 @@ use Rattle.vd_vhost.proofs.vhost.Vhost.tell.Goals as goal
 
 pub returns-in-Store-clause-line : goal.returns-in-Store-clause-line
 returns-in-Store-clause-line g c size done s =
-    by_step _ size done _ _ _ _ _ (c.in-Store.is ∙ ap (Store c.in-Store.at) (sym c.as_slice.ensures)) (c.store.ensures size done (subst (λ bus. IsAfter size done bus) (sym c.self.view_is) s))
+    by_step _ size done _ _ _ _ _ (c.in-Store.is ∙ ap (Store c.in-Store.at) (sym c.as_slice.ensures)) (c.store.ensures.line size done (subst (λ bus. IsAfter size done bus) (sym c.self.view_is) s))
 
 pub returns-in-Poke-clause-line : goal.returns-in-Poke-clause-line
 returns-in-Poke-clause-line g c size done s =

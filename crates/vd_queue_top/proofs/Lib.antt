@@ -1,0 +1,6 @@
+pub mod Replies
+pub mod Reached
+pub mod Answered
+pub mod Ends
+pub mod Sizes
+pub mod Ran
