@@ -1,9 +1,8 @@
 -- How a run on a queue to which nothing was added ends, and the words that ask for one.
 use Rattle.std.specs.Prelude.{ℕ, ◌≡◌, ◌<◌, ◌≤◌, Bool, true, false, List, Option, Some, None}
+use Rattle.std.specs.Option.{option_map}
 use Rattle.vd_output.specs.Out.{good_lines_in}
 use Rattle.vd_options.specs.Programs.{asked_queue}
-use Rattle.vd_options.specs.declared.programs.QueueOptions.{QueueOptions}
-use Rattle.vd_options.specs.declared.programs.RingKind.TheVariants.{Packed, Split}
 use Rattle.vd_loop.specs.Outs.{TextStops, TextWrites}
 use Rattle.vd_loop.specs.Statuses.{is_line_status, is_status, stop_of_status}
 use Rattle.vd_loop.specs.declared.ended.Ended.{Ended}
@@ -22,19 +21,9 @@ pub record QueueRan (size : ℕ) (ended : Ended) (told left old new : Option (Li
       → TextWrites (queue_replies (empty_lists size)) (good_lines_in is_queue_line text) (stop_of_status ended.status) ended.lines_done old new
   pub whole : (text : List ℕ) → told ≡ Some text → ended.status ≡ 0 → Appended old new (QueueOut size text)
 
--- how many descriptors a ring can have
-pub record IsRingSize (size : ℕ) : Type 0 where
-  pub some : 0 < size
-  pub small : size ≤ 32768
-
--- the size of a queue that was asked for, whose ring is packed
-abbrev pub packed_size : Option QueueOptions → Option ℕ
-packed_size None = None
-packed_size (Some asked) = elim asked.kind [ Packed ↦ Some asked.size | Split ↦ None ]
-
--- the size of the queue that words ask for
+-- the size of the queue that words ask for, whatever ring it has
 abbrev pub asked_size : List (List ℕ) → Option ℕ
-asked_size words = packed_size (asked_queue words)
+asked_size words = option_map (λ asked. asked.size) (asked_queue words)
 
 -- words ask for a queue of this size, and this text is told
 pub record IsGiven (words : List (List ℕ)) (size : ℕ) (left : Option (List ℕ)) (text : List ℕ) : Type 0 where

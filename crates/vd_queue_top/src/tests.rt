@@ -6,6 +6,9 @@ use std::test::Fail;
 use vd_io::{MemSink, MemSource};
 use vd_num::{Bytes, Lines};
 
+/// The kinds of a ring: what is written doesn't name it.
+const KINDS: [&str; 2] = ["packed", "split"];
+
 /// A worked session, and the replies that are due.
 const SESSION: &[u8] = b"add r:0x10:8 w:0x20:4
 add w:0x30:1 w:0x40:1
@@ -123,14 +126,16 @@ fn copies(alloc: Global, piece: &[u8], count: u32) -> Result<Vec<u8>, AllocError
 
 #[test]
 fn texts_are_answered(rt: HostRuntime) -> Result<(), Fail> {
-    let ran = run(rt.alloc(), "packed", "4", &sound(SESSION))?;
-    assert_eq!(rt; ran.end, (0, 0, 13));
-    assert_eq!(rt; ran.sink.as_slice(), REPLIES);
+    for kind in KINDS {
+        let ran = run(rt.alloc(), kind, "4", &sound(SESSION))?;
+        assert_eq!(rt; ran.end, (0, 0, 13));
+        assert_eq!(rt; ran.sink.as_slice(), REPLIES);
 
-    // The only descriptor goes round, so each of its flags is seen with both wrap counters.
-    let ran = run(rt.alloc(), "packed", "1", &sound(ROUNDS))?;
-    assert_eq!(rt; ran.end, (0, 0, 10));
-    assert_eq!(rt; ran.sink.as_slice(), ROUND_REPLIES);
+        // The only descriptor goes round, so each of its flags is seen with both wrap counters.
+        let ran = run(rt.alloc(), kind, "1", &sound(ROUNDS))?;
+        assert_eq!(rt; ran.end, (0, 0, 10));
+        assert_eq!(rt; ran.sink.as_slice(), ROUND_REPLIES);
+    }
 
     // Other words, and a line that isn't in the grammar.
     let ran = run(rt.alloc(), "packed", "3", &sound(SESSION))?;
@@ -183,11 +188,13 @@ fn full_text(alloc: Global, parts: &[u8]) -> Result<Vec<u8>, AllocError> {
 fn the_largest_ring_is_filled(rt: HostRuntime) -> Result<(), Fail> {
     let parts = copies(rt.alloc(), b" r:0x1:1", 64)?;
     let text = full_text(rt.alloc(), &parts)?;
-    let ran = run(rt.alloc(), "packed", "32768", &sound(&text))?;
-    assert_eq!(rt; ran.end, (0, 0, 514));
     let mut last = b"ok 511\nerr 28\nok 0".to_vec(rt.alloc())?;
     last.extend_from_slice(&parts)?;
     last.push(b'\n')?;
-    assert!(rt; ran.sink.as_slice().ends_with(&last));
+    for kind in KINDS {
+        let ran = run(rt.alloc(), kind, "32768", &sound(&text))?;
+        assert_eq!(rt; ran.end, (0, 0, 514));
+        assert!(rt; ran.sink.as_slice().ends_with(&last));
+    }
     Ok(())
 }

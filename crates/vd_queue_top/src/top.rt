@@ -9,7 +9,8 @@ ghost use Rattle.vd_output.specs.Out.{At_the_end, good_lines_in, stop_in};
 ghost use Rattle.vr_pair.specs.QueueLines.{QueueOut, queue_replies};
 ghost use Rattle.vr_pair.specs.QueueLists.{empty_lists};
 ghost use Rattle.vd_queue_top.specs.Replies.{is_queue_line};
-ghost use Rattle.vd_queue_top.specs.Runs.{IsGiven, IsRingSize, QueueRan, asked_size};
+ghost use Rattle.vd_model.specs.Rings.{IsRingSize};
+ghost use Rattle.vd_queue_top.specs.Runs.{IsGiven, QueueRan, asked_size};
 
 use crate::lines::queue_lines;
 use std::alloc::{AllocError, Global};
@@ -19,6 +20,7 @@ use vd_num::Lines;
 use vd_options::{QueueOptions, RingKind, read_queue};
 use vr_packed::PackedPair;
 use vr_pair::Pair;
+use vr_split_pair::SplitPair;
 
 /// The end of a run that had no memory for its queue.
 fn without_memory() -> Ended
@@ -50,27 +52,36 @@ fn lines_if_made<P: Pair + Drop, S: Source, K: Sink>(
     }
 }
 
-/// Answers the lines on a queue whose ring is packed.
-fn packed_lines<S: Source, K: Sink>(alloc: Global, size: u16, source: &mut S, sink: &mut K) -> Ended
-    requires { IsRingSize size }
-    ensures ran { QueueRan size result (S.left source.old) (S.left source.new) (K.held sink.old) (K.held sink.new) }
+/// Answers the lines on a queue with such a ring.
+fn lines_on<S: Source, K: Sink>(
+    alloc: Global,
+    asked: QueueOptions,
+    source: &mut S,
+    sink: &mut K,
+) -> Ended
+    requires { IsRingSize asked.size }
+    ensures ran { QueueRan asked.size result (S.left source.old) (S.left source.new)
+        (K.held sink.old) (K.held sink.new) }
     ensures source_failed { result.status ≡ 3 → Rose (S.faults source.old) (S.faults source.new) }
     ensures sink_failed { result.status ≡ 4 → Rose (K.faults sink.old) (K.faults sink.new) }
 {
-    lines_if_made(alloc, PackedPair::new(alloc, size), source, sink)
+    let QueueOptions { kind, size } = asked;
+    match kind {
+        RingKind::Packed => lines_if_made(alloc, PackedPair::new(alloc, size), source, sink),
+        RingKind::Split => lines_if_made(alloc, SplitPair::new(alloc, size), source, sink),
+    }
 }
 
-/// Runs the queue program: its words are `queue packed`, and how many descriptors the ring has; it answers the lines that
-/// the source gives on a queue with such a ring (virtio 1.2, section 2.8), and writes their replies. `queue split` ends
-/// with status 2: no pair over a split ring is made yet.
+/// Runs the queue program: its words are `queue`, the kind of a ring (`packed`, virtio 1.2, section 2.8, or `split`,
+/// section 2.7), and how many descriptors that has; it answers the lines that the source gives on a queue with such a
+/// ring, and writes their replies, which are the same for both kinds.
 pub fn queue_top<S: Source, K: Sink>(
     alloc: Global,
     words: &Vec<String>,
     source: &mut S,
     sink: &mut K,
 ) -> Exit
-    // Status 2: exactly where the words have another form, or ask for a split ring, which no pair is made of yet; then
-    // source and sink are as they were.
+    // Status 2: exactly where the words have another form; then source and sink are as they were.
     ensures usage { asked_size (map string_bytes words.now.items) ≡ None → (result.status ≡ 2)
         × (source.new ≡ source.old) × (sink.new ≡ sink.old) × (result.lines_done ≡ 0) }
 
@@ -108,12 +119,7 @@ pub fn queue_top<S: Source, K: Sink>(
         (result.status ≡ 0) ⊎ (result.status ≡ 5) }
 {
     match read_queue(words) {
-        Some(
-            QueueOptions {
-                kind: RingKind::Packed,
-                size,
-            },
-        ) => Exit::of_run(packed_lines(alloc, size, source, sink), Lines::new(alloc)),
-        _ => Exit::usage(alloc),
+        None => Exit::usage(alloc),
+        Some(asked) => Exit::of_run(lines_on(alloc, asked, source, sink), Lines::new(alloc)),
     }
 }

@@ -12,7 +12,7 @@ use vd_loop::Exit;
 /// Why a program ended before its lines were answered whole. Lines count from 1, comments and empty lines included.
 #[derive(Debug, Drop, Error)]
 pub enum Fault {
-    #[error("usage: vduse run|cached LINES [--page P] [--bounce-pages N] [--iova-pages N] [--sectors N | --image PATH] < SCRIPT, vduse queue packed SIZE, or vduse vhost BYTES; see vduse help")]
+    #[error("usage: vduse run|cached LINES [--page P] [--bounce-pages N] [--iova-pages N] [--sectors N | --image PATH] < SCRIPT, vduse queue packed|split SIZE, or vduse vhost BYTES; see vduse help")]
     Usage,
     #[error("cannot read the lines after line {0}")]
     Read(u64),

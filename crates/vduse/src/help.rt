@@ -17,7 +17,7 @@ vduse - the kernel side of VDUSE and a block daemon, as a script asks them
 
 usage: vduse run [OPTIONS] < SCRIPT            answers each line of a script by one line
        vduse cached LINES [OPTIONS] < SCRIPT   the same over a write-back cache of LINES dirty sectors
-       vduse queue packed SIZE < LINES         the same of the two sides of one virtqueue
+       vduse queue packed|split SIZE < LINES   the same of the two sides of one virtqueue
        vduse vhost BYTES < LINES               the same of a guest's memory behind a table of regions
        vduse help run|queue|vhost              says the words, limits and statuses (run: of cached too)
        vduse --version
@@ -48,7 +48,7 @@ status 0  every line was answered
 A refused line (err N, bus A) does not end a run. Why a run ended is said on standard error.";
 
 const QUEUE: &str = "\
-usage: vduse queue packed SIZE < LINES
+usage: vduse queue packed|split SIZE < LINES
 
 Both sides of one virtqueue of SIZE descriptors, a power of two from 1 to 32768. A line a call:
 

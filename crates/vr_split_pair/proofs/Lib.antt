@@ -1,0 +1,13 @@
+pub mod Added
+pub mod Chains
+pub mod Fields
+pub mod Finished
+pub mod Fresh
+pub mod Located
+pub mod Moves
+pub mod Owners
+pub mod Reclaimed
+pub mod Safe
+pub mod Tables
+pub mod Taken
+pub mod Writes
